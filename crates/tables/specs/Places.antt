@@ -1,0 +1,33 @@
+-- The places of a segment that carry TMCC, AC1 and AC2, by mode, kind and row (ARIB STD-B31, Tables 3-14 and 3-15).
+-- Assumes nothing.
+use Prim.Native.Nat.{ℕ, zero, suc, _+_, _*_, _%_}
+use mathlib.Core.Bool.{Bool, true, false, cond}
+use mathlib.Core.List.{List, [], _∷_, _++_}
+use lib.Dec.{eqb}
+use lib.ListN.{getD, take}
+use Rattle.params.specs.declared.Mode.{Mode}
+use Rattle.params.specs.declared.SegmentKind.{SegmentKind}
+use Rattle.params.specs.declared.SegmentKind.the-variants.{Coherent, Differential}
+use Rattle.tables.specs.declared.Positions.{Positions}
+use Rattle.tables.specs.Rows.{diffAc1, diffAc2, diffTmcc, cohAc1, cohTmcc, prbsInit}
+
+-- the places that the code's row lists
+abbrev pub listed : Positions → List ℕ
+listed r = take (r .count) (r .places)
+
+abbrev pub tmccOf : Mode → SegmentKind → ℕ → List ℕ
+tmccOf mode Coherent row = getD (cohTmcc mode) row []
+tmccOf mode Differential row = getD (diffTmcc mode) row []
+
+abbrev pub ac1Of : Mode → SegmentKind → ℕ → List ℕ
+ac1Of mode Coherent row = getD (cohAc1 mode) row []
+ac1Of mode Differential row = getD (diffAc1 mode) row []
+
+-- a coherent segment has no AC2
+abbrev pub ac2Of : Mode → SegmentKind → ℕ → List ℕ
+ac2Of mode Coherent row = []
+ac2Of mode Differential row = getD (diffAc2 mode) row []
+
+-- the sign register's first state, as a number of eleven binary digits
+abbrev pub initOf : Mode → ℕ → ℕ
+initOf mode row = getD (prbsInit mode) row 0
