@@ -1,10 +1,12 @@
--- The places of a segment that carry TMCC, AC1 and AC2, by mode, kind and row (ARIB STD-B31, Tables 3-14 and 3-15).
+-- The places of a segment that carry pilots, TMCC, AC1 and AC2, by mode, kind, row and phase (ARIB STD-B31, Figures 3-29 and 3-30,
+-- Tables 3-14 and 3-15).
 -- Assumes nothing.
-use Prim.Native.Nat.{ℕ, zero, suc, _+_, _*_, _%_}
-use mathlib.Core.Bool.{Bool, true, false, cond}
-use mathlib.Core.List.{List, [], _∷_, _++_}
+use Prim.Native.Nat.{ℕ, _+_, _*_, _%_}
+use mathlib.Core.Bool.{Bool, false, cond}
+use mathlib.Core.List.{List, []}
 use lib.Dec.{eqb}
 use lib.ListN.{getD, take}
+use Rattle.lists.specs.Tests.{memb}
 use Rattle.params.specs.declared.Mode.{Mode}
 use Rattle.params.specs.declared.SegmentKind.{SegmentKind}
 use Rattle.params.specs.declared.SegmentKind.the-variants.{Coherent, Differential}
@@ -31,3 +33,22 @@ ac2Of mode Differential row = getD (diffAc2 mode) row []
 -- the sign register's first state, as a number of eleven binary digits
 abbrev pub initOf : Mode → ℕ → ℕ
 initOf mode row = getD (prbsInit mode) row 0
+
+-- a scattered pilot of a coherent segment at a phase
+abbrev pub isSp : SegmentKind → ℕ → ℕ → Bool
+isSp Coherent phase p = eqb (p % 12) (3 * phase)
+isSp Differential phase p = false
+
+-- the continual pilot of a differential segment
+abbrev pub isCp : SegmentKind → ℕ → Bool
+isCp Coherent p = false
+isCp Differential p = eqb p 0
+
+abbrev pub one : Bool → ℕ
+one b = cond b 1 0
+
+-- how many of SP, CP, TMCC, AC1 and AC2 the place p is
+unfoldable pub claims : Mode → SegmentKind → ℕ → ℕ → ℕ → ℕ
+claims mode kind row phase p =
+    one (isSp kind phase p) + (one (isCp kind p)
+    + (one (memb p (tmccOf mode kind row)) + (one (memb p (ac1Of mode kind row)) + one (memb p (ac2Of mode kind row)))))

@@ -1,0 +1,2 @@
+pub mod Band
+pub mod Laws

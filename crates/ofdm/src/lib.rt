@@ -1,0 +1,85 @@
+// Carriers, places and FFT bins, after ofdm.rs of isdb-rs. A carrier's number in the band, its
+// place in its segment, a segment's number, its place in the band and an FFT bin each count
+// something else, so each has a type; what leads from one to another is a function here.
+ghost use mathlib.Core.Path.{_≡_};
+ghost use Prim.Native.Nat.{_<_, _+_, _*_};
+ghost use Rattle.params.specs.Params.{modeFrom, carriersPerSegment, totalCarriers};
+ghost use Rattle.ofdm.specs.Band.{segmentAt, placeOf, binOf, binLookup};
+use params::Mode;
+use params::ModeNumber;
+
+// A carrier's number in the band: 0 is the lowest frequency, k_total - 1 the edge.
+pub struct BandCarrier(pub usize);
+
+// A carrier's place in its segment, from 0 to c - 1.
+pub struct SegmentPlace(pub usize);
+
+// A bin of the FFT: bin 0 is the centre carrier.
+pub struct FftBin(pub usize);
+
+// A segment's number, 0 to 12, as the standard counts from the band's middle.
+pub struct Segment(pub usize);
+
+// A segment's place in the band, 0 to 12 from the lowest frequency.
+pub struct BandPlace(pub usize);
+
+const SEGMENT_AT: [usize; 13] = [11, 9, 7, 5, 3, 1, 0, 2, 4, 6, 8, 10, 12];
+
+const PLACE_OF: [usize; 13] = [6, 5, 7, 4, 8, 3, 9, 2, 10, 1, 11, 0, 12];
+
+// The segment at a place of the band.
+pub fn segment_at_position(place: BandPlace) -> Segment
+    requires { ⌜ place .0 < 13 ⌝ }
+    ensures { λ r. ⌜ (r .0 ≡ segmentAt (place .0)) × (r .0 < 13) ⌝ }
+{
+    let p = place.0;
+    Segment(SEGMENT_AT[p])
+}
+
+// The place of a segment in the band.
+pub fn segment_position(seg: Segment) -> BandPlace
+    requires { ⌜ seg .0 < 13 ⌝ }
+    ensures { λ r. ⌜ (r .0 ≡ placeOf (seg .0)) × (r .0 < 13) ⌝ }
+{
+    let s = seg.0;
+    BandPlace(PLACE_OF[s])
+}
+
+// The carrier at a place of the segment that has a place in the band.
+pub fn band_carrier(mode: Mode, place: BandPlace, p: SegmentPlace) -> BandCarrier
+    requires { ⌜ (place .0 < 13) × (p .0 < carriersPerSegment mode) ⌝ }
+    ensures { λ r. ⌜ r .0 ≡ place .0 * carriersPerSegment mode + p .0 ⌝ }
+{
+    BandCarrier(place.0 * mode.carriers_per_segment() + p.0)
+}
+
+// The FFT bin of a carrier of the band.
+pub fn carrier_bin(mode: Mode, k: BandCarrier) -> FftBin
+    requires { ⌜ k .0 < totalCarriers mode ⌝ }
+    ensures { λ r. ⌜ r .0 ≡ binOf mode (k .0) ⌝ }
+{
+    let n = mode.fft_size();
+    let center = (mode.total_carriers() - 1) / 2;
+    FftBin((k.0 + (n - center)) % n)
+}
+
+// What the lookup answers.
+pub enum BinLookup {
+    Bin(FftBin),
+    Refused(u8),
+}
+
+// The FFT bin of carrier k in a mode that is given by its number: refused by 1 for a bad mode, by
+// 4 for a carrier that the band does not have.
+pub fn bin_lookup(mode: u8, k: BandCarrier) -> BinLookup
+    ensures { λ r. ⌜ r ≡ binLookup (modeFrom mode) (k .0) ⌝ }
+{
+    let ModeNumber::Known(m) = Mode::from_number(mode) else {
+        return BinLookup::Refused(1);
+    };
+    let number = k.0;
+    if m.total_carriers() <= number {
+        return BinLookup::Refused(4);
+    }
+    BinLookup::Bin(carrier_bin(m, k))
+}
