@@ -4,8 +4,9 @@
 use Prim.Native.Nat.{ℕ, _+_, _*_, _%_}
 use mathlib.Core.Bool.{Bool, false, cond}
 use mathlib.Core.List.{List, []}
+use mathlib.Core.Path.{_≡_}
 use lib.Dec.{eqb}
-use lib.ListN.{getD, take}
+use lib.ListN.{length, getD, take}
 use Rattle.lists.specs.Tests.{memb}
 use Rattle.params.specs.declared.Mode.{Mode}
 use Rattle.params.specs.declared.SegmentKind.{SegmentKind}
@@ -13,9 +14,10 @@ use Rattle.params.specs.declared.SegmentKind.the-variants.{Coherent, Differenti
 use Rattle.tables.specs.declared.Positions.{Positions}
 use Rattle.tables.specs.Rows.{diffAc1, diffAc2, diffTmcc, cohAc1, cohTmcc, prbsInit}
 
--- the places that the code's row lists
-abbrev pub listed : Positions → List ℕ
-listed r = take (r .count) (r .places)
+-- the code's row r holds the places xs and nothing else
+pub record Listed (r : Positions) (xs : List ℕ) : Type 0 where
+  pub places : take (r .count) (r .places) ≡ xs
+  pub count : r .count ≡ length xs
 
 abbrev pub tmccOf : Mode → SegmentKind → ℕ → List ℕ
 tmccOf mode Coherent row = getD (cohTmcc mode) row []

@@ -9,7 +9,7 @@ ghost use mathlib.Core.List.{[]};
 ghost use Prim.Native.Nat.{_<_, _≤_};
 ghost use lib.ListN.{length, getD};
 ghost use Rattle.tables.specs.Rows.{diffAc1, diffAc2, diffTmcc, cohAc1, cohTmcc, carrierRandomize};
-ghost use Rattle.tables.specs.Places.{listed, tmccOf, ac1Of, ac2Of, initOf};
+ghost use Rattle.tables.specs.Places.{Listed, tmccOf, ac1Of, ac2Of, initOf};
 ghost use Rattle.params.specs.Params.{dataCarriersPerSegment};
 ghost use Rattle.params.specs.declared.Mode.the-variants.{M1, M2, M3};
 use params::Mode;
@@ -394,7 +394,7 @@ pub struct Positions {
 
 fn copied(row: &[u16]) -> Positions
     requires { ⌜ length (now row) ≤ 20 ⌝ }
-    ensures { λ r. ⌜ listed r ≡ now (row .entry) ⌝ }
+    ensures { λ r. ⌜ Listed r (now (row .entry)) ⌝ }
 {
     let mut places = [0u16; 20];
     let mut i: usize = 0;
@@ -410,105 +410,105 @@ fn copied(row: &[u16]) -> Positions
 
 fn coh_tmcc_m1(row: usize) -> Positions
     requires { ⌜ row < 13 ⌝ }
-    ensures { λ r. ⌜ listed r ≡ getD (cohTmcc M1) row [] ⌝ }
+    ensures { λ r. ⌜ Listed r (getD (cohTmcc M1) row []) ⌝ }
 {
     copied(&COH_TMCC_M1[row])
 }
 
 fn coh_tmcc_m2(row: usize) -> Positions
     requires { ⌜ row < 13 ⌝ }
-    ensures { λ r. ⌜ listed r ≡ getD (cohTmcc M2) row [] ⌝ }
+    ensures { λ r. ⌜ Listed r (getD (cohTmcc M2) row []) ⌝ }
 {
     copied(&COH_TMCC_M2[row])
 }
 
 fn coh_tmcc_m3(row: usize) -> Positions
     requires { ⌜ row < 13 ⌝ }
-    ensures { λ r. ⌜ listed r ≡ getD (cohTmcc M3) row [] ⌝ }
+    ensures { λ r. ⌜ Listed r (getD (cohTmcc M3) row []) ⌝ }
 {
     copied(&COH_TMCC_M3[row])
 }
 
 fn diff_tmcc_m1(row: usize) -> Positions
     requires { ⌜ row < 13 ⌝ }
-    ensures { λ r. ⌜ listed r ≡ getD (diffTmcc M1) row [] ⌝ }
+    ensures { λ r. ⌜ Listed r (getD (diffTmcc M1) row []) ⌝ }
 {
     copied(&DIFF_TMCC_M1[row])
 }
 
 fn diff_tmcc_m2(row: usize) -> Positions
     requires { ⌜ row < 13 ⌝ }
-    ensures { λ r. ⌜ listed r ≡ getD (diffTmcc M2) row [] ⌝ }
+    ensures { λ r. ⌜ Listed r (getD (diffTmcc M2) row []) ⌝ }
 {
     copied(&DIFF_TMCC_M2[row])
 }
 
 fn diff_tmcc_m3(row: usize) -> Positions
     requires { ⌜ row < 13 ⌝ }
-    ensures { λ r. ⌜ listed r ≡ getD (diffTmcc M3) row [] ⌝ }
+    ensures { λ r. ⌜ Listed r (getD (diffTmcc M3) row []) ⌝ }
 {
     copied(&DIFF_TMCC_M3[row])
 }
 
 fn coh_ac1_m1(row: usize) -> Positions
     requires { ⌜ row < 13 ⌝ }
-    ensures { λ r. ⌜ listed r ≡ getD (cohAc1 M1) row [] ⌝ }
+    ensures { λ r. ⌜ Listed r (getD (cohAc1 M1) row []) ⌝ }
 {
     copied(&COH_AC1_M1[row])
 }
 
 fn coh_ac1_m2(row: usize) -> Positions
     requires { ⌜ row < 13 ⌝ }
-    ensures { λ r. ⌜ listed r ≡ getD (cohAc1 M2) row [] ⌝ }
+    ensures { λ r. ⌜ Listed r (getD (cohAc1 M2) row []) ⌝ }
 {
     copied(&COH_AC1_M2[row])
 }
 
 fn coh_ac1_m3(row: usize) -> Positions
     requires { ⌜ row < 13 ⌝ }
-    ensures { λ r. ⌜ listed r ≡ getD (cohAc1 M3) row [] ⌝ }
+    ensures { λ r. ⌜ Listed r (getD (cohAc1 M3) row []) ⌝ }
 {
     copied(&COH_AC1_M3[row])
 }
 
 fn diff_ac1_m1(row: usize) -> Positions
     requires { ⌜ row < 13 ⌝ }
-    ensures { λ r. ⌜ listed r ≡ getD (diffAc1 M1) row [] ⌝ }
+    ensures { λ r. ⌜ Listed r (getD (diffAc1 M1) row []) ⌝ }
 {
     copied(&DIFF_AC1_M1[row])
 }
 
 fn diff_ac1_m2(row: usize) -> Positions
     requires { ⌜ row < 13 ⌝ }
-    ensures { λ r. ⌜ listed r ≡ getD (diffAc1 M2) row [] ⌝ }
+    ensures { λ r. ⌜ Listed r (getD (diffAc1 M2) row []) ⌝ }
 {
     copied(&DIFF_AC1_M2[row])
 }
 
 fn diff_ac1_m3(row: usize) -> Positions
     requires { ⌜ row < 13 ⌝ }
-    ensures { λ r. ⌜ listed r ≡ getD (diffAc1 M3) row [] ⌝ }
+    ensures { λ r. ⌜ Listed r (getD (diffAc1 M3) row []) ⌝ }
 {
     copied(&DIFF_AC1_M3[row])
 }
 
 fn diff_ac2_m1(row: usize) -> Positions
     requires { ⌜ row < 13 ⌝ }
-    ensures { λ r. ⌜ listed r ≡ getD (diffAc2 M1) row [] ⌝ }
+    ensures { λ r. ⌜ Listed r (getD (diffAc2 M1) row []) ⌝ }
 {
     copied(&DIFF_AC2_M1[row])
 }
 
 fn diff_ac2_m2(row: usize) -> Positions
     requires { ⌜ row < 13 ⌝ }
-    ensures { λ r. ⌜ listed r ≡ getD (diffAc2 M2) row [] ⌝ }
+    ensures { λ r. ⌜ Listed r (getD (diffAc2 M2) row []) ⌝ }
 {
     copied(&DIFF_AC2_M2[row])
 }
 
 fn diff_ac2_m3(row: usize) -> Positions
     requires { ⌜ row < 13 ⌝ }
-    ensures { λ r. ⌜ listed r ≡ getD (diffAc2 M3) row [] ⌝ }
+    ensures { λ r. ⌜ Listed r (getD (diffAc2 M3) row []) ⌝ }
 {
     copied(&DIFF_AC2_M3[row])
 }
@@ -516,7 +516,7 @@ fn diff_ac2_m3(row: usize) -> Positions
 // TMCC places of a segment.
 pub fn tmcc_positions(mode: Mode, kind: SegmentKind, row: usize) -> Positions
     requires { ⌜ row < 13 ⌝ }
-    ensures { λ r. ⌜ listed r ≡ tmccOf mode kind row ⌝ }
+    ensures { λ r. ⌜ Listed r (tmccOf mode kind row) ⌝ }
 {
     match kind {
         SegmentKind::Coherent => match mode {
@@ -535,7 +535,7 @@ pub fn tmcc_positions(mode: Mode, kind: SegmentKind, row: usize) -> Positions
 // AC1 places of a segment.
 pub fn ac1_positions(mode: Mode, kind: SegmentKind, row: usize) -> Positions
     requires { ⌜ row < 13 ⌝ }
-    ensures { λ r. ⌜ listed r ≡ ac1Of mode kind row ⌝ }
+    ensures { λ r. ⌜ Listed r (ac1Of mode kind row) ⌝ }
 {
     match kind {
         SegmentKind::Coherent => match mode {
@@ -554,7 +554,7 @@ pub fn ac1_positions(mode: Mode, kind: SegmentKind, row: usize) -> Positions
 // AC2 places of a segment. A coherent one has none.
 pub fn ac2_positions(mode: Mode, kind: SegmentKind, row: usize) -> Positions
     requires { ⌜ row < 13 ⌝ }
-    ensures { λ r. ⌜ listed r ≡ ac2Of mode kind row ⌝ }
+    ensures { λ r. ⌜ Listed r (ac2Of mode kind row) ⌝ }
 {
     match kind {
         SegmentKind::Coherent => Positions {

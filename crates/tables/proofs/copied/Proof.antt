@@ -47,7 +47,7 @@ loop-again : tie.Need-loop-again Inv-loop μ-loop
 loop-again c = (omega arith, omega arith, simp length-set (c .before .before .loop .inv .2), one-more _ _ _ (c .before .loop-test .taken) (omega arith) (c .before .before .loop .inv .3))
 
 returns : tie.Need-returns Inv-loop μ-loop
-returns c = c .before .loop .inv .3 ∙ take-all _ _ (c .loop-test .left)
+returns c = record { places = c .before .loop .inv .3 ∙ take-all _ _ (c .loop-test .left); count = omega arith }
 
 pub copied-spec : {M : Type 1} → statement M
 copied-spec =

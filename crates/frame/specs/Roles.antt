@@ -1,0 +1,94 @@
+-- The role of each carrier (ARIB STD-B31, Figures 3-29 and 3-30, Tables 3-14 and 3-15), of a segment and of a band.
+-- Assumes nothing.
+use Prim.Native.Nat.{ℕ, _*_, _-_, _/_, _%_}
+use mathlib.Core.Bool.{Bool, true, false, cond, not, _&&_, _||_}
+use mathlib.Core.List.{List, [], _∷_, _++_, map}
+use lib.Dec.{eqb, leb}
+use lib.ListN.{length, getD}
+use Rattle.lists.specs.Lists.{upTo, range, joined, select, chosen}
+use Rattle.lists.specs.Tests.{memb}
+use Rattle.params.specs.declared.Mode.{Mode}
+use Rattle.params.specs.declared.SegmentKind.{SegmentKind}
+use Rattle.params.specs.declared.SegmentKind.the-variants.{Coherent, Differential}
+use Rattle.params.specs.Params.{carriersPerSegment, totalCarriers, kindFrom}
+use Rattle.tables.specs.Places.{tmccOf, ac1Of, ac2Of, isSp, isCp}
+use Rattle.ofdm.specs.Band.{order, placeOf}
+use Rattle.frame.specs.declared.AcKind.{AcKind}
+use Rattle.frame.specs.declared.AcKind.the-variants.{Ac1, Ac2}
+use Rattle.frame.specs.declared.CarrierRole.{CarrierRole}
+use Rattle.frame.specs.declared.CarrierRole.the-variants.{Data, Sp, Cp, Tmcc, Ac, EdgeCp}
+
+-- document 01's role bytes
+abbrev pub roleByte : CarrierRole → ℕ
+roleByte Data = 0
+roleByte Sp = 1
+roleByte Cp = 2
+roleByte Tmcc = 3
+roleByte (Ac Ac1) = 4
+roleByte (Ac Ac2) = 5
+roleByte EdgeCp = 6
+
+-- an OFDM segment of a band: the row of the carrier tables that it uses, and its kind
+pub record OfdmSegment : Type 0 where
+  pub row : ℕ
+  pub kind : SegmentKind
+
+-- the role of place p of a segment
+unfoldable pub placeRole : Mode → OfdmSegment → ℕ → ℕ → CarrierRole
+placeRole mode s phase p =
+    cond (isSp (s .kind) phase p) Sp
+    (cond (isCp (s .kind) p) Cp
+    (cond (memb p (tmccOf mode (s .kind) (s .row))) Tmcc
+    (cond (memb p (ac1Of mode (s .kind) (s .row))) (Ac Ac1)
+    (cond (memb p (ac2Of mode (s .kind) (s .row))) (Ac Ac2)
+    Data))))
+
+-- the role bytes of a segment's carriers, lowest first
+unfoldable pub segmentRoles : Mode → ℕ → OfdmSegment → List ℕ
+segmentRoles mode phase s = upTo (λ p. roleByte (placeRole mode s phase p)) (carriersPerSegment mode)
+
+-- the role bytes of a band, its segments by place, lowest first, and then the edge
+unfoldable pub bandRoles : Mode → ℕ → List OfdmSegment → List ℕ
+bandRoles mode phase segments = joined (segmentRoles mode phase) segments ++ (roleByte EdgeCp ∷ [])
+
+-- segment seg of the wide band, whose kinds are given in segment-number order
+abbrev pub wideSegment : List ℕ → ℕ → OfdmSegment
+wideSegment kinds seg = record { row = seg; kind = kindFrom (getD kinds seg 0) }
+
+-- the wide band: thirteen segments in the standard's order
+abbrev pub wide : List ℕ → List OfdmSegment
+wide kinds = map (wideSegment kinds) order
+
+-- tests on a role byte
+abbrev pub between : ℕ → ℕ → ℕ → Bool
+between low high r = leb low r && leb r high
+
+abbrev pub isData : ℕ → Bool
+isData = between (roleByte Data) (roleByte Data)
+
+abbrev pub isCpByte : ℕ → Bool
+isCpByte = between (roleByte Cp) (roleByte Cp)
+
+abbrev pub isTmcc : ℕ → Bool
+isTmcc = between (roleByte Tmcc) (roleByte Tmcc)
+
+abbrev pub isAc : ℕ → Bool
+isAc = between (roleByte (Ac Ac1)) (roleByte (Ac Ac2))
+
+-- the data carriers of segment seg of the wide band, ascending
+unfoldable pub segmentData : Mode → ℕ → List ℕ → ℕ → List ℕ
+segmentData mode phase kinds seg =
+    chosen isData (placeOf seg * carriersPerSegment mode) (segmentRoles mode phase (wideSegment kinds seg))
+
+-- the data list: in segment-number order
+unfoldable pub dataList : Mode → ℕ → List ℕ → List ℕ
+dataList mode phase kinds = joined (segmentData mode phase kinds) (range 13)
+
+-- the continual list: all TMCC carriers, all AC carriers, all CP carriers, each group ascending, then the edge.
+-- None of these hangs on the phase, so phase 0 serves.
+unfoldable pub continualList : Mode → List ℕ → List ℕ
+continualList mode kinds =
+    chosen isTmcc 0 (bandRoles mode 0 (wide kinds))
+    ++ (chosen isAc 0 (bandRoles mode 0 (wide kinds))
+    ++ (chosen isCpByte 0 (bandRoles mode 0 (wide kinds))
+    ++ ((totalCarriers mode - 1) ∷ [])))

@@ -1,0 +1,34 @@
+-- What the inner functions write and take on the way to an operation's answer. No operation's contract cites these; the laws that lead
+-- from them to `Roles` are in proofs/.
+-- Assumes nothing.
+use Prim.Native.Nat.{ℕ, _+_, _≤_, _<_}
+use mathlib.Core.Bool.{Bool, true, cond}
+use mathlib.Core.List.{List, [], _∷_}
+use mathlib.Core.Path.{_≡_}
+use lib.ListN.{length, getD, take, set}
+use Rattle.lists.specs.Lists.{chosen}
+use Rattle.params.specs.declared.Mode.{Mode}
+use Rattle.params.specs.declared.ModeNumber.{ModeNumber}
+use Rattle.params.specs.declared.ModeNumber.the-variants.{Known}
+use Rattle.params.specs.declared.SegmentKind.{SegmentKind}
+use Rattle.tables.specs.declared.Positions.{Positions}
+use Rattle.tables.specs.Places.{isSp, isCp}
+use Rattle.frame.specs.declared.CarrierRole.the-variants.{Data, Sp, Cp}
+use Rattle.frame.specs.Roles.{roleByte}
+
+-- the role byte of a place as far as pilots decide it
+abbrev pub pilotByte : SegmentKind → ℕ → ℕ → ℕ
+pilotByte kind phase p = cond (isSp kind phase p) (roleByte Sp) (cond (isCp kind p) (roleByte Cp) (roleByte Data))
+
+-- out with role at each of the places
+unfoldable pub markedAt : List ℕ → ℕ → List ℕ → List ℕ
+markedAt [] role out = out
+markedAt (p ∷ ps) role out = markedAt ps role (set out p role)
+
+abbrev pub marked : Positions → ℕ → List ℕ → List ℕ
+marked row role out = markedAt (take (row .count) (row .places)) role out
+
+-- each place of the row lies within out
+pub record Markable (row : Positions) (out : List ℕ) : Type 0 where
+  pub count : row .count ≤ 20
+  pub within : (i : ℕ) → i < row .count → getD (row .places) i 0 < length out

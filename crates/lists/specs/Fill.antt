@@ -1,0 +1,99 @@
+-- Laws for loops that write a lent buffer from the front: entry by entry, part by part, or only the entries that pass a test.
+-- Assumes nothing.
+use Prim.Native.Nat.{ℕ, zero, suc, _+_, _*_, _-_, _≤_, _<_}
+use mathlib.Core.Bool.{Bool, true, false, cond}
+use mathlib.Core.List.{List, [], _∷_, _++_, append-assoc, append-nil, map}
+use mathlib.Core.Path.{_≡_, refl, sym, ap, subst, _∙_}
+use native.Mathlib.Omega.{arith}
+use native.Mathlib.Nat.{zero-mul, suc-mul, add-suc, suc-add, add-assoc}
+use native.Mathlib.Numerals.{add-one}
+use borrow.Rule.Slice.PartMut.{putMid}
+use lib.ListN.{length, getD, take, drop, set, length-append, drop-of-length-le}
+use lib.Seq.{set-at, drop-cons, take-suc, take-at, drop-at, drop-drop, take-length, length-take-le, sets, sets-eq}
+use Rattle.lists.specs.Lists.{upTo, joined, chosen}
+
+-- entry by entry: `out` is f's first i values before what was there
+pub length-upTo : (f : ℕ → ℕ) (n : ℕ) → length (upTo f n) ≡ n
+length-upTo f zero = refl
+length-upTo f (suc n) = length-append (upTo f n) (f n ∷ []) ∙ (ap (λ (m : ℕ). m + 1) (length-upTo f n) ∙ add-one n)
+
+fill-step : (f : ℕ → ℕ) (old : List ℕ) (i : ℕ) → i < length old → set (upTo f i ++ drop i old) i (f i) ≡ upTo f (i + 1) ++ drop (i + 1) old
+fill-step f old i h =
+    rw (add-one, drop-cons old i 0 h)
+    (set-at (upTo f i) (getD old i 0) (drop (suc i) old) (f i) i (length-upTo f i) ∙ sym (append-assoc (upTo f i) (f i ∷ []) (drop (suc i) old)))
+
+pub fill-again : (f : ℕ → ℕ) (old out : List ℕ) (i v : ℕ) → out ≡ upTo f i ++ drop i old → v ≡ f i → i < length old
+    → set out i v ≡ upTo f (i + 1) ++ drop (i + 1) old
+fill-again f old out i v e q h = rw (e, q) (fill-step f old i h)
+
+pub fill-done : (f : ℕ → ℕ) (old out : List ℕ) (n i : ℕ) → out ≡ upTo f i ++ drop i old → length old ≤ i → i ≡ n → out ≡ upTo f n
+fill-done f old out n i e h q =
+    e ∙ (ap (λ (l : List ℕ). upTo f i ++ l) (drop-of-length-le old h) ∙ (append-nil (upTo f i) ∙ ap (upTo f) q))
+
+-- part by part: a part written behind what is written already
+pub part-step : (front old out part : List ℕ) (a e : ℕ) → length front ≡ a → a ≤ e → out ≡ front ++ drop a old → putMid a (e - a) out part ≡ (front ++ part) ++ drop e old
+part-step front old out part a e f h o =
+    let before : take a out ≡ front = ap (take a) o ∙ take-at front (drop a old) a f in
+    let from : drop a out ≡ drop a old = ap (drop a) o ∙ drop-at front (drop a old) a f in
+    let whole : a + (e - a) ≡ e = omega arith in
+    let behind : drop (e - a) (drop a out) ≡ drop e old = ap (drop (e - a)) from ∙ (drop-drop (e - a) a old ∙ ap (λ (n : ℕ). drop n old) whole) in
+    rw (before, behind) (sym (append-assoc front part (drop e old)))
+
+pub joined-append : {A : Type 0} (f : A → List ℕ) (xs ys : List A) → joined f (xs ++ ys) ≡ joined f xs ++ joined f ys
+joined-append f [] ys = refl
+joined-append f (x ∷ xs) ys = rw (joined-append f xs ys, append-assoc)
+
+pub joined-map : {A B : Type 0} (f : B → List ℕ) (g : A → B) (xs : List A) → joined f (map g xs) ≡ joined (λ x. f (g x)) xs
+joined-map f g [] = refl
+joined-map f g (x ∷ xs) = rw (joined-map f g xs)
+
+pub joined-more : (f : ℕ → List ℕ) (xs : List ℕ) (p : ℕ) → p < length xs → joined f (take (p + 1) xs) ≡ joined f (take p xs) ++ f (getD xs p 0)
+joined-more f xs p h = rw (add-one, take-suc xs p 0 h, joined-append f (take p xs) (getD xs p 0 ∷ []), append-nil)
+
+pub length-joined : {A : Type 0} (f : A → List ℕ) (n : ℕ) → ((x : A) → length (f x) ≡ n) → (xs : List A) → length (joined f xs) ≡ length xs * n
+length-joined f n h [] = sym (zero-mul n)
+length-joined f n h (x ∷ xs) =
+    let r : length (joined f xs) ≡ length xs * n = length-joined f n h xs in
+    length-append (f x) (joined f xs) ∙ (rw (h x, r, suc-mul (length xs) n) (omega arith))
+
+module _ (f : ℕ → List ℕ) (n : ℕ) (size : (x : ℕ) → length (f x) ≡ n) (xs old : List ℕ) where
+  front-length : (p : ℕ) → p ≤ length xs → length (joined f (take p xs)) ≡ p * n
+  front-length p h = length-joined f n size (take p xs) ∙ ap (λ (k : ℕ). k * n) (length-take-le p xs h)
+
+  -- one part of length n more
+  pub parts-again : (out part : List ℕ) (p : ℕ) → p < length xs → out ≡ joined f (take p xs) ++ drop (p * n) old → part ≡ f (getD xs p 0)
+      → putMid (p * n) (p * n + n - p * n) out part ≡ joined f (take (p + 1) xs) ++ drop ((p + 1) * n) old
+  parts-again out part p h o e =
+      let next : (p + 1) * n ≡ p * n + n = ap (λ (k : ℕ). k * n) (add-one p) ∙ suc-mul p n in
+      rw (next, joined-more f xs p h)
+      (part-step (joined f (take p xs)) old out part (p * n) (p * n + n) (front-length p (omega arith)) (omega arith) o
+      ∙ ap (λ (z : List ℕ). (joined f (take p xs) ++ z) ++ drop (p * n + n) old) e)
+
+  -- all parts, and one last entry
+  pub parts-last : (out : List ℕ) (p v : ℕ) → p ≡ length xs → length old ≡ length xs * n + 1 → out ≡ joined f (take p xs) ++ drop (p * n) old
+      → set out (length xs * n) v ≡ joined f xs ++ (v ∷ [])
+  parts-last out p v q l o =
+      let all : length (joined f xs) ≡ length xs * n = length-joined f n size xs in
+      let o' : out ≡ joined f xs ++ drop (length xs * n) old = o ∙ (rw q (ap (λ (z : List ℕ). joined f z ++ drop (length xs * n) old) (take-length xs))) in
+      let past : length old ≤ suc (length xs * n) = omega arith in
+      let last : drop (length xs * n) old ≡ getD old (length xs * n) 0 ∷ [] = drop-cons old (length xs * n) 0 (omega arith) ∙ ap (λ (z : List ℕ). getD old (length xs * n) 0 ∷ z) (drop-of-length-le old past) in
+      rw (o', last) (set-at (joined f xs) (getD old (length xs * n) 0) [] v (length xs * n) all)
+
+-- the entries that pass: `sets out n cs` is `out` with cs stored from n on
+pub sets-append : (xs ys l : List ℕ) (i : ℕ) → sets (sets l i xs) (i + length xs) ys ≡ sets l i (xs ++ ys)
+sets-append [] ys l i = ap (λ (k : ℕ). sets l k ys) (omega arith)
+sets-append (x ∷ xs) ys l i = ap (λ (k : ℕ). sets (sets (set l i x) (suc i) xs) k ys) (omega arith) ∙ sets-append xs ys (set l i x) (suc i)
+
+pub sets-all : (xs l : List ℕ) → length xs ≡ length l → sets l 0 xs ≡ xs
+sets-all xs l e =
+    let past : length l ≤ 0 + length xs = omega arith in
+    sets-eq xs l 0 (omega arith) ∙ (ap (λ (z : List ℕ). xs ++ z) (drop-of-length-le l past) ∙ append-nil xs)
+
+-- one entry looked at: it is passed over, or stored
+pub chosen-skip : (t : ℕ → Bool) (k i : ℕ) (roles : List ℕ) → i < length roles → t (getD roles i 0) ≡ false
+    → chosen t (k + i) (drop i roles) ≡ chosen t (k + (i + 1)) (drop (i + 1) roles)
+chosen-skip t k i roles h e = rw (drop-cons roles i 0 h, e, add-one i, add-suc k i)
+
+pub chosen-take : (t : ℕ → Bool) (k i : ℕ) (roles : List ℕ) → i < length roles → t (getD roles i 0) ≡ true
+    → chosen t (k + i) (drop i roles) ≡ (k + i) ∷ chosen t (k + (i + 1)) (drop (i + 1) roles)
+chosen-take t k i roles h e = rw (drop-cons roles i 0 h, e, add-one i, add-suc k i)
