@@ -1,5 +1,9 @@
 pub mod Roles
 pub mod Rules
+pub mod OneRole
+pub mod DataList
+pub mod Continual
 pub mod Signs
 pub mod Operations
 pub mod Written
+pub mod CrossCheck

@@ -1,14 +1,15 @@
 -- What each operation answers and what it leaves in its lent buffer, for every input. A mode comes as a number from outside, so the
 -- first case of each definition is the number that is no mode.
 -- Assumes nothing.
-use Prim.Native.Nat.{ℕ, _+_, _*_}
-use mathlib.Core.Bool.{Bool, true, false, cond, _&&_}
+use Prim.Native.Nat.{ℕ, _*_}
+use mathlib.Core.Bool.{Bool, cond, _&&_}
 use mathlib.Core.List.{List, _++_}
 use mathlib.Core.Path.{_≡_}
 use lib.Dec.{eqb, leb, ltb}
 use lib.ListN.{length, drop}
 use Rattle.lists.specs.Refusals.{unless}
 use Rattle.lists.specs.Tests.{allIn}
+use Rattle.params.specs.declared.Mode.{Mode}
 use Rattle.params.specs.declared.ModeNumber.{ModeNumber}
 use Rattle.params.specs.declared.ModeNumber.the-variants.{Known, Unknown}
 use Rattle.params.specs.Params.{dataCarriersPerSegment, totalCarriers}
@@ -26,18 +27,28 @@ unfoldable pub layoutCode : ModeNumber → List ℕ → ℕ
 layoutCode Unknown kinds = 1
 layoutCode (Known m) kinds = unless (areKinds kinds) 2 0
 
--- the role map: 1; 2; 3; 7 unless the output is k_total bytes
-unfoldable pub roleMapCode : ModeNumber → ℕ → List ℕ → ℕ → ℕ
-roleMapCode Unknown phase kinds n = 1
-roleMapCode (Known m) phase kinds n = unless (areKinds kinds) 2 (unless (ltb phase 4) 3 (unless (eqb n (totalCarriers m)) 7 0))
+-- an operation on a mode, a phase and kinds: 1; 2; 3; 7 unless the output has as many entries as the mode asks
+unfoldable pub symbolCode : (Mode → ℕ) → ModeNumber → ℕ → List ℕ → ℕ → ℕ
+symbolCode size Unknown phase kinds n = 1
+symbolCode size (Known m) phase kinds n = unless (areKinds kinds) 2 (unless (ltb phase 4) 3 (unless (eqb n (size m)) 7 0))
 
-unfoldable pub roleMapLeaves : ModeNumber → ℕ → List ℕ → List ℕ → List ℕ
-roleMapLeaves Unknown phase kinds out = out
-roleMapLeaves (Known m) phase kinds out = cond (eqb (roleMapCode (Known m) phase kinds (length out)) 0) (bandRoles m phase (wide kinds)) out
+-- its output: the list of the mode, or as it was where the call is refused
+unfoldable pub symbolLeaves : (Mode → ℕ) → (Mode → List ℕ) → ModeNumber → ℕ → List ℕ → List ℕ → List ℕ
+symbolLeaves size list Unknown phase kinds out = out
+symbolLeaves size list (Known m) phase kinds out = cond (eqb (symbolCode size (Known m) phase kinds (length out)) 0) (list m) out
 
-pub record RoleMap (mode : ModeNumber) (phase : ℕ) (kinds out : List ℕ) (r : ℕ) (out' : List ℕ) : Type 0 where
-  pub code : r ≡ roleMapCode mode phase kinds (length out)
-  pub leaves : out' ≡ roleMapLeaves mode phase kinds out
+pub record SymbolAnswer (size : Mode → ℕ) (list : Mode → List ℕ) (mode : ModeNumber) (phase : ℕ) (kinds out : List ℕ) (r : ℕ) (out' : List ℕ) : Type 0 where
+  pub code : r ≡ symbolCode size mode phase kinds (length out)
+  pub leaves : out' ≡ symbolLeaves size list mode phase kinds out
+
+-- the role map: k_total bytes, the roles of the wide band
+abbrev pub RoleMap : ModeNumber → ℕ → List ℕ → List ℕ → ℕ → List ℕ → Type 0
+RoleMap mode phase kinds out r out' = SymbolAnswer totalCarriers (λ m. bandRoles m phase (wide kinds)) mode phase kinds out r out'
+
+-- the data list: 13 × nc numbers
+abbrev pub DataList : ModeNumber → ℕ → List ℕ → List ℕ → ℕ → List ℕ → Type 0
+DataList mode phase kinds out r out' =
+    SymbolAnswer (λ m. 13 * dataCarriersPerSegment m) (λ m. dataList m phase kinds) mode phase kinds out r out'
 
 -- the sign map: 1; 7 unless the output is k_total bytes
 unfoldable pub signMapCode : ModeNumber → ℕ → ℕ
@@ -51,20 +62,6 @@ signMapLeaves (Known m) out = cond (eqb (signMapCode (Known m) (length out)) 0) 
 pub record SignMap (mode : ModeNumber) (out : List ℕ) (r : ℕ) (out' : List ℕ) : Type 0 where
   pub code : r ≡ signMapCode mode (length out)
   pub leaves : out' ≡ signMapLeaves mode out
-
--- the data list: 1; 2; 3; 7 unless the output is 13 × nc numbers
-unfoldable pub dataListCode : ModeNumber → ℕ → List ℕ → ℕ → ℕ
-dataListCode Unknown phase kinds n = 1
-dataListCode (Known m) phase kinds n =
-    unless (areKinds kinds) 2 (unless (ltb phase 4) 3 (unless (eqb n (13 * dataCarriersPerSegment m)) 7 0))
-
-unfoldable pub dataListLeaves : ModeNumber → ℕ → List ℕ → List ℕ → List ℕ
-dataListLeaves Unknown phase kinds out = out
-dataListLeaves (Known m) phase kinds out = cond (eqb (dataListCode (Known m) phase kinds (length out)) 0) (dataList m phase kinds) out
-
-pub record DataList (mode : ModeNumber) (phase : ℕ) (kinds out : List ℕ) (r : ℕ) (out' : List ℕ) : Type 0 where
-  pub code : r ≡ dataListCode mode phase kinds (length out)
-  pub leaves : out' ≡ dataListLeaves mode phase kinds out
 
 -- the continual list: 1; 2; 7 if the output is shorter than the count; what lies beyond keeps its contents
 unfoldable pub continualListCode : ModeNumber → List ℕ → ℕ → ℕ

@@ -33,6 +33,9 @@ pub record OfdmSegment : Type 0 where
   pub row : ℕ
   pub kind : SegmentKind
 
+abbrev pub ofdmSegment : ℕ → SegmentKind → OfdmSegment
+ofdmSegment row kind = record { row = row; kind = kind }
+
 -- the role of place p of a segment
 unfoldable pub placeRole : Mode → OfdmSegment → ℕ → ℕ → CarrierRole
 placeRole mode s phase p =
@@ -53,7 +56,7 @@ bandRoles mode phase segments = joined (segmentRoles mode phase) segments ++ (ro
 
 -- segment seg of the wide band, whose kinds are given in segment-number order
 abbrev pub wideSegment : List ℕ → ℕ → OfdmSegment
-wideSegment kinds seg = record { row = seg; kind = kindFrom (getD kinds seg 0) }
+wideSegment kinds seg = ofdmSegment seg (kindFrom (getD kinds seg 0))
 
 -- the wide band: thirteen segments in the standard's order
 abbrev pub wide : List ℕ → List OfdmSegment

@@ -5,18 +5,15 @@ use mathlib.Core.Bool.{Bool, true, false, cond}
 use mathlib.Core.List.{List, [], _∷_, _++_, append-assoc, append-nil, map}
 use mathlib.Core.Path.{_≡_, refl, sym, ap, subst, _∙_}
 use native.Mathlib.Omega.{arith}
-use native.Mathlib.Nat.{zero-mul, suc-mul, add-suc, suc-add, add-assoc}
+use native.Mathlib.Nat.{zero-mul, suc-mul, add-suc, le-of-suc-le-suc, not-suc-le-zero}
 use native.Mathlib.Numerals.{add-one}
 use borrow.Rule.Slice.PartMut.{putMid}
 use lib.ListN.{length, getD, take, drop, set, length-append, drop-of-length-le}
-use lib.Seq.{set-at, drop-cons, take-suc, take-at, drop-at, drop-drop, take-length, length-take-le, sets, sets-eq}
-use Rattle.lists.specs.Lists.{upTo, joined, chosen}
+use lib.Seq.{set-at, drop-cons, take-suc, take-at, drop-at, drop-drop, take-length, length-take-le, drop-append-add, sets, sets-eq}
+use Rattle.lists.specs.Lists.{upTo, range, joined, chosen}
+use Rattle.lists.specs.Select.{length-upTo, length-joined}
 
 -- entry by entry: `out` is f's first i values before what was there
-pub length-upTo : (f : ℕ → ℕ) (n : ℕ) → length (upTo f n) ≡ n
-length-upTo f zero = refl
-length-upTo f (suc n) = length-append (upTo f n) (f n ∷ []) ∙ (ap (λ (m : ℕ). m + 1) (length-upTo f n) ∙ add-one n)
-
 fill-step : (f : ℕ → ℕ) (old : List ℕ) (i : ℕ) → i < length old → set (upTo f i ++ drop i old) i (f i) ≡ upTo f (i + 1) ++ drop (i + 1) old
 fill-step f old i h =
     rw (add-one, drop-cons old i 0 h)
@@ -50,15 +47,23 @@ joined-map f g (x ∷ xs) = rw (joined-map f g xs)
 pub joined-more : (f : ℕ → List ℕ) (xs : List ℕ) (p : ℕ) → p < length xs → joined f (take (p + 1) xs) ≡ joined f (take p xs) ++ f (getD xs p 0)
 joined-more f xs p h = rw (add-one, take-suc xs p 0 h, joined-append f (take p xs) (getD xs p 0 ∷ []), append-nil)
 
-pub length-joined : {A : Type 0} (f : A → List ℕ) (n : ℕ) → ((x : A) → length (f x) ≡ n) → (xs : List A) → length (joined f xs) ≡ length xs * n
-length-joined f n h [] = sym (zero-mul n)
-length-joined f n h (x ∷ xs) =
-    let r : length (joined f xs) ≡ length xs * n = length-joined f n h xs in
-    length-append (f x) (joined f xs) ∙ (rw (h x, r, suc-mul (length xs) n) (omega arith))
+pub joined-same : (f g : ℕ → List ℕ) (n : ℕ) → ((k : ℕ) → k < n → f k ≡ g k) → joined f (range n) ≡ joined g (range n)
+joined-same f g zero h = refl
+joined-same f g (suc n) h =
+    rw (joined-append f (range n) (n ∷ []), joined-append g (range n) (n ∷ []), joined-same f g n (λ k l. h k (omega arith)), h n (omega arith))
+
+-- the part at q, read back
+pub part-of : (f : ℕ → List ℕ) (n : ℕ) → ((x : ℕ) → length (f x) ≡ n) → (xs rest : List ℕ) (q : ℕ) → q < length xs
+    → take n (drop (q * n) (joined f xs ++ rest)) ≡ f (getD xs q 0)
+part-of f n size [] rest q h = absurd (not-suc-le-zero h)
+part-of f n size (x ∷ xs) rest zero h = rw (zero-mul, append-assoc) (take-at (f x) (joined f xs ++ rest) n (size x))
+part-of f n size (x ∷ xs) rest (suc q) h =
+    let next : suc q * n ≡ length (f x) + q * n = rw (suc-mul, size x) (omega arith) in
+    rw (next, append-assoc, drop-append-add (f x) (joined f xs ++ rest) (q * n)) (part-of f n size xs rest q (le-of-suc-le-suc h))
 
 module _ (f : ℕ → List ℕ) (n : ℕ) (size : (x : ℕ) → length (f x) ≡ n) (xs old : List ℕ) where
   front-length : (p : ℕ) → p ≤ length xs → length (joined f (take p xs)) ≡ p * n
-  front-length p h = length-joined f n size (take p xs) ∙ ap (λ (k : ℕ). k * n) (length-take-le p xs h)
+  front-length p h = length-joined f n 0 (take p xs) (λ i l. size _) ∙ ap (λ (k : ℕ). k * n) (length-take-le p xs h)
 
   -- one part of length n more
   pub parts-again : (out part : List ℕ) (p : ℕ) → p < length xs → out ≡ joined f (take p xs) ++ drop (p * n) old → part ≡ f (getD xs p 0)
@@ -73,7 +78,7 @@ module _ (f : ℕ → List ℕ) (n : ℕ) (size : (x : ℕ) → length (f x) ≡
   pub parts-last : (out : List ℕ) (p v : ℕ) → p ≡ length xs → length old ≡ length xs * n + 1 → out ≡ joined f (take p xs) ++ drop (p * n) old
       → set out (length xs * n) v ≡ joined f xs ++ (v ∷ [])
   parts-last out p v q l o =
-      let all : length (joined f xs) ≡ length xs * n = length-joined f n size xs in
+      let all : length (joined f xs) ≡ length xs * n = length-joined f n 0 xs (λ i l. size _) in
       let o' : out ≡ joined f xs ++ drop (length xs * n) old = o ∙ (rw q (ap (λ (z : List ℕ). joined f z ++ drop (length xs * n) old) (take-length xs))) in
       let past : length old ≤ suc (length xs * n) = omega arith in
       let last : drop (length xs * n) old ≡ getD old (length xs * n) 0 ∷ [] = drop-cons old (length xs * n) 0 (omega arith) ∙ ap (λ (z : List ℕ). getD old (length xs * n) 0 ∷ z) (drop-of-length-le old past) in

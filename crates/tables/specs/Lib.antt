@@ -1,2 +1,4 @@
 pub mod Rows
 pub mod Places
+pub mod Rule
+pub mod Randomize

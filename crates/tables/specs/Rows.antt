@@ -245,6 +245,7 @@ cohTmcc M3 =
     (70 ∷ 133 ∷ 233 ∷ 410 ∷ []) ∷
     (61 ∷ 193 ∷ 317 ∷ 347 ∷ []) ∷
     []
+
 -- Table 3-16: the register's first state in each segment, D1 to D11 as binary digits from left to right
 abbrev pub prbsInit : Mode → List ℕ
 prbsInit M1 =

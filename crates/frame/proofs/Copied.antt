@@ -1,0 +1,75 @@
+-- Kinds that are read while they are tested: what is read is the kinds' front, and the rest decides the test.
+-- Assumes nothing.
+use Prim.Native.Nat.{ℕ, _+_, _<_, _≤_}
+use mathlib.Core.Bool.{Bool, true, false, _&&_}
+use mathlib.Core.List.{List}
+use mathlib.Core.Path.{_≡_, refl, sym, ap, _∙_}
+use native.Mathlib.Numerals.{add-one}
+use native.Mathlib.Omega.{arith}
+use borrow.Author.Tests.{eq-eqb, ne-eqb, le-leb, lt-leb}
+use lib.Dec.{eqb, leb}
+use lib.ListN.{length, getD, take, drop, set, length-set, drop-of-length-le}
+use lib.Seq.{take-suc, take-suc-set, take-all}
+use Rattle.lists.specs.Tests.{allIn, allIn-stop, allIn-pass}
+use Rattle.params.specs.declared.Mode.{Mode}
+use Rattle.params.specs.declared.ModeNumber.{ModeNumber}
+use Rattle.params.specs.declared.ModeNumber.the-variants.{Known, Unknown}
+use Rattle.frame.specs.Operations.{areKinds, layoutCode}
+use Rattle.frame.specs.Written.{AcceptedKinds, AcceptedLayout}
+
+never : {A : Type 0} → false ≡ true → A
+never e = absurd (let z : _≡_ {A = ℕ} 0 1 = cc in omega arith)
+
+-- not thirteen
+pub miscounted : (kinds read : List ℕ) → (length kinds ≡ 13 → ⊥) → AcceptedKinds kinds false read
+miscounted kinds read h = record { test = sym (rw (ne-eqb (length kinds) 13 h)); same = λ e. never e }
+
+module _ (kinds : List ℕ) where
+  pub record Reading (i : ℕ) (read : List ℕ) : Type 0 where
+    pub passed : i ≤ 13
+    pub all : length kinds ≡ 13
+    pub size : length read ≡ 13
+    pub front : take i read ≡ take i kinds
+    pub rest : allIn (λ k. leb k 1) kinds ≡ allIn (λ k. leb k 1) (drop i kinds)
+
+  module _ (i : ℕ) (read : List ℕ) (r : Reading i read) where
+    pub one-more : i < 13 → getD kinds i 0 ≤ 1 → Reading (i + 1) (set read i (getD kinds i 0))
+    one-more h good =
+        record {
+          passed = omega arith;
+          all = r .all;
+          size = length-set read i (getD kinds i 0) ∙ r .size;
+          front = rw (add-one, take-suc-set read i (getD kinds i 0) (omega (arith, r .size)), take-suc kinds i 0 (omega (arith, r .all)), r .front);
+          rest = r .rest ∙ allIn-pass (λ k. leb k 1) kinds i (omega (arith, r .all)) (le-leb _ _ good);
+        }
+
+    -- a byte that is no kind
+    pub no-kind : i < 13 → 1 < getD kinds i 0 → AcceptedKinds kinds false read
+    no-kind h bad =
+        record {
+          test = sym (rw (eq-eqb (length kinds) 13 (r .all)) (r .rest ∙ allIn-stop (λ k. leb k 1) kinds i (omega (arith, r .all)) (lt-leb _ _ bad)));
+          same = λ e. never e;
+        }
+
+    pub all-read : 13 ≤ i → AcceptedKinds kinds true read
+    all-read h =
+        let k : length kinds ≤ i = omega (arith, r .all) in
+        let l : length read ≤ i = omega (arith, r .size) in
+        record {
+          test = sym (rw (eq-eqb (length kinds) 13 (r .all)) (r .rest ∙ ap (allIn (λ k. leb k 1)) (drop-of-length-le kinds k)));
+          same = λ e. sym (take-all i read l) ∙ (r .front ∙ take-all i kinds k);
+        }
+
+-- a mode and its kinds: refused by the mode, by the kinds, or accepted
+module _ (number : ModeNumber) (kinds : List ℕ) (m : Mode) (read : List ℕ) where
+  pub bad-mode : number ≡ Unknown → AcceptedLayout number kinds 1 m read
+  unfolding layoutCode
+  bad-mode e = record { refusal = rw e; known = λ z. absurd (omega arith); same = λ z. absurd (omega arith) }
+
+  pub bad-kinds : (good : Bool) → number ≡ Known m → good ≡ false → AcceptedKinds kinds good read → AcceptedLayout number kinds 2 m read
+  unfolding layoutCode
+  bad-kinds good e b a = record { refusal = rw (e, ← a .test, b); known = λ z. absurd (omega arith); same = λ z. absurd (omega arith) }
+
+  pub accepted : (good : Bool) → number ≡ Known m → good ≡ true → AcceptedKinds kinds good read → AcceptedLayout number kinds 0 m read
+  unfolding layoutCode
+  accepted good e b a = record { refusal = rw (e, ← a .test, b); known = λ z. e; same = λ z. a .same b }

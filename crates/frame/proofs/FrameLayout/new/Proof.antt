@@ -1,0 +1,41 @@
+-- `frame::FrameLayout::new` meets its contract: each return is the case of the definition that the tests on the way decide.
+-- Assumes nothing.
+use mathlib.Core.Path.{sym, _∙_}
+use borrow.Author.Tests.{not-true, not-false}
+use Rattle.frame.proofs.Copied.{bad-mode, bad-kinds, accepted}
+use borrow.Author.Needs.{needs}
+use Rattle.frame.proofs.FrameLayout.new.Statement.{statement}
+use Rattle.frame.proofs.FrameLayout.new.Tie as tie
+
+from-number-requires : tie.Need-from-number-requires
+from-number-requires c κs = search needs
+
+enum-known-m : tie.Need-enum-known-m
+enum-known-m c = search needs
+
+enum-told : tie.Need-enum-told
+enum-told c = search needs
+
+returns : tie.Need-returns
+returns c = bad-mode _ _ _ _ (sym (c .before .before .from-number .ensures) ∙ c .enum-told .given .1)
+
+read-kinds-requires : tie.Need-read-kinds-requires
+read-kinds-requires c κs = search needs
+
+returns-2 : tie.Need-returns-2
+returns-2 c = bad-kinds _ _ _ _ _ (sym (c .before .before .before .before .before .before .before .from-number .ensures) ∙ c .before .before .before .before .before .m .given .1) (not-true _ (c .if1 .taken)) (c .before .before .before .read-kinds .ensures)
+
+returns-3 : tie.Need-returns-3
+returns-3 c = accepted _ _ _ _ _ (sym (c .before .before .before .before .before .before .before .from-number .ensures) ∙ c .before .before .before .before .before .m .given .1) (not-false _ (c .if1 .left)) (c .before .before .before .read-kinds .ensures)
+
+pub new-spec : {M : Type 1} → statement M
+new-spec =
+    tie.close
+    (tie.spec
+    from-number-requires
+    enum-known-m
+    enum-told
+    returns
+    read-kinds-requires
+    returns-2
+    returns-3)
