@@ -1,0 +1,40 @@
+-- What the C functions return and leave, in terms of the operations' own definitions: an answer that is an enum becomes a number and
+-- what it lends back.
+-- Assumes nothing.
+use Prim.Native.Nat.{ℕ}
+use mathlib.Core.List.{List}
+use mathlib.Core.Path.{_≡_}
+use lib.ListN.{length}
+use Rattle.params.specs.declared.ModeNumber.{ModeNumber}
+use Rattle.ofdm.specs.declared.BinLookup.{BinLookup}
+use Rattle.ofdm.specs.declared.BinLookup.the-variants as bin-lookup
+use Rattle.ofdm.specs.Band.{binLookup}
+use Rattle.frame.specs.declared.ContinualList.{ContinualList}
+use Rattle.frame.specs.declared.ContinualList.the-variants as continual-list
+use Rattle.frame.specs.Operations.{continualListAnswer, continualListLeaves}
+
+-- 0 and the bin, or the refusal's number and what was lent
+abbrev pub binCode : BinLookup → ℕ
+binCode (bin-lookup.Bin b) = 0
+binCode (bin-lookup.Refused code) = code
+
+abbrev pub binLeaves : BinLookup → ℕ → ℕ
+binLeaves (bin-lookup.Bin b) lent = b .0
+binLeaves (bin-lookup.Refused code) lent = lent
+
+pub record CarrierBin (mode : ModeNumber) (k lent r bin : ℕ) : Type 0 where
+  pub code : r ≡ binCode (binLookup mode k)
+  pub leaves : bin ≡ binLeaves (binLookup mode k) lent
+
+abbrev pub continualCode : ContinualList → ℕ
+continualCode (continual-list.Count n) = 0
+continualCode (continual-list.Refused code) = code
+
+abbrev pub continualCount : ContinualList → ℕ → ℕ
+continualCount (continual-list.Count n) lent = n
+continualCount (continual-list.Refused code) lent = lent
+
+pub record ContinualCount (mode : ModeNumber) (kinds out : List ℕ) (lent r : ℕ) (out' : List ℕ) (count : ℕ) : Type 0 where
+  pub code : r ≡ continualCode (continualListAnswer mode kinds (length out))
+  pub counted : count ≡ continualCount (continualListAnswer mode kinds (length out)) lent
+  pub leaves : out' ≡ continualListLeaves mode kinds out

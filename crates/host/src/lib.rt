@@ -1,0 +1,67 @@
+// The C library: a thin function for each operation, so that a host can call it. Numbers pass as
+// themselves, a slice as a pointer and a length, and an answer through `&mut` numbers. Each returns
+// 0 or the refusal's number, and a refusal leaves everything lent as it was.
+ghost use mathlib.Core.Path.{_≡_};
+ghost use Rattle.params.specs.Params.{modeFrom};
+ghost use Rattle.frame.specs.Operations.{RoleMap, SignMap, DataList};
+ghost use Rattle.host.specs.Host.{CarrierBin, ContinualCount};
+use frame::ContinualList;
+use ofdm::BandCarrier;
+use ofdm::BinLookup;
+
+// The FFT bin of carrier k.
+#[no_mangle]
+pub extern "C" fn sillurwy_carrier_bin(mode: u8, k: usize, bin: &mut usize) -> u8
+    ensures { λ r. ⌜ CarrierBin (modeFrom mode) k (now (bin .entry)) r (now (bin .exit)) ⌝ }
+{
+    match ofdm::bin_lookup(mode, BandCarrier(k)) {
+        BinLookup::Bin(b) => {
+            *bin = b.0;
+            0
+        }
+        BinLookup::Refused(code) => code,
+    }
+}
+
+// The role byte of each carrier of the band.
+#[no_mangle]
+pub extern "C" fn sillurwy_role_map(mode: u8, phase: u8, kinds: &[u8], out: &mut [u8]) -> u8
+    ensures { λ r. ⌜ RoleMap (modeFrom mode) phase (now (kinds .entry)) (now (out .entry)) r (now (out .exit)) ⌝ }
+{
+    frame::role_map(mode, phase, kinds, out)
+}
+
+// The pilot sign of each carrier of the band.
+#[no_mangle]
+pub extern "C" fn sillurwy_sign_map(mode: u8, out: &mut [u8]) -> u8
+    ensures { λ r. ⌜ SignMap (modeFrom mode) (now (out .entry)) r (now (out .exit)) ⌝ }
+{
+    frame::sign_map(mode, out)
+}
+
+// The data carriers of the band, in segment-number order.
+#[no_mangle]
+pub extern "C" fn sillurwy_data_list(mode: u8, phase: u8, kinds: &[u8], out: &mut [u32]) -> u8
+    ensures { λ r. ⌜ DataList (modeFrom mode) phase (now (kinds .entry)) (now (out .entry)) r (now (out .exit)) ⌝ }
+{
+    frame::data_list(mode, phase, kinds, out)
+}
+
+// The continual carriers of the band, and how many there are.
+#[no_mangle]
+pub extern "C" fn sillurwy_continual_list(
+    mode: u8,
+    kinds: &[u8],
+    out: &mut [u32],
+    count: &mut usize,
+) -> u8
+    ensures { λ r. ⌜ ContinualCount (modeFrom mode) (now (kinds .entry)) (now (out .entry)) (now (count .entry)) r (now (out .exit)) (now (count .exit)) ⌝ }
+{
+    match frame::continual_list(mode, kinds, out) {
+        ContinualList::Count(n) => {
+            *count = n;
+            0
+        }
+        ContinualList::Refused(code) => code,
+    }
+}
