@@ -1,0 +1,45 @@
+# Shared by the scripts compare, bench and store: finds the repository and builds what they need.
+
+oracle=$(cd "$(dirname "$0")" && pwd)
+root=$(cd "$oracle/.." && pwd)
+library=$root/target/staticlib/libhost.a
+segments=$root/target/bin/segments
+programs=$root/target/oracle
+
+say() {
+    echo "oracle: $*" >&2
+}
+
+# True if the file is missing, or older than any file under crates/.
+stale() {
+    [ ! -e "$1" ] || [ -n "$(find "$root/crates" -type f -newer "$1" -print -quit)" ]
+}
+
+# The static library of the proved operations. SILLURWY_LIB_DIR names another one.
+need_library() {
+    if [ -z "${SILLURWY_LIB_DIR:-}" ] && stale "$library"; then
+        say "proving and building the library: rt staticlib host"
+        (cd "$root" && rt staticlib host) >&2
+    fi
+}
+
+# The proved program segments. SILLURWY_SEGMENTS names another one.
+need_segments() {
+    if [ -z "${SILLURWY_SEGMENTS:-}" ]; then
+        if stale "$segments"; then
+            say "proving and building the program: rt check segments"
+            (cd "$root" && rt check segments) >&2
+        fi
+        export SILLURWY_SEGMENTS=$segments
+    fi
+}
+
+# Builds one program of this crate and becomes it: name, then its words.
+build_and_run() {
+    local name=$1
+    shift
+    say "building the Rust side: cargo build --release --offline --bin $name"
+    (cd "$oracle" && CARGO_TARGET_DIR=$programs cargo build --quiet --release --offline --bin "$name") >&2
+    say "running $name${*:+ $*}"
+    exec "$programs/release/$name" "$@"
+}

@@ -1,0 +1,328 @@
+//! Holds the proved port against the Rust: every layout, every bin, every refusal at its boundary,
+//! random calls, and the program `segments`.
+
+use oracle::answers;
+use oracle::args::Args;
+use oracle::calls::{self, Call, Operation, Outcome};
+use oracle::check;
+use oracle::codes::{KINDS, MODES, PHASES, kind_bytes, kinds_of_choice};
+use oracle::isdb::frame::FrameLayout;
+use oracle::isdb::params::{Mode, SEGMENTS};
+use oracle::rng::Rng;
+use oracle::segment_list::{damaged_line, every_question, random_question};
+use oracle::segments_program;
+use oracle::tally::{Row, Tally, on_all_processors, print_table};
+use std::collections::BTreeSet;
+use std::io;
+use std::process::ExitCode;
+
+const USAGE: &str = "\
+compare: hold the proved port against the Rust
+
+  --quick     a seeded sample of the layouts in place of all 98,304; everything else the same
+  --seed N    seed of the sample, the random calls and the damaged lines (default 1)
+  --cases N   random calls of each operation (default 4096)
+  --help      this text
+
+Environment: SILLURWY_SEGMENTS is the path of the program segments.
+Exit status: 0 no difference; 1 a difference; 2 bad usage, or the program could not be run.";
+
+struct Options {
+    quick: bool,
+    seed: u64,
+    cases: u64,
+}
+
+fn options() -> Options {
+    let mut args = Args::new(USAGE);
+    let mut options = Options {
+        quick: false,
+        seed: 1,
+        cases: 4096,
+    };
+    while let Some(word) = args.next_word() {
+        match word.as_str() {
+            "--quick" => options.quick = true,
+            "--seed" => options.seed = args.number("--seed"),
+            "--cases" => options.cases = args.number("--cases"),
+            _ => args.fail(format!("unknown word {word}")),
+        }
+    }
+    options
+}
+
+/// Streams of random numbers, one for each use.
+mod stream {
+    pub const SAMPLE: u64 = 1;
+    pub const CALLS: u64 = 100;
+    pub const LINES: u64 = 200;
+    pub const INPUTS: u64 = 300;
+}
+
+/// Kinds in a sample, for each mode.
+const SAMPLE: usize = 1024;
+/// Damaged lines besides those that `--cases` asks for.
+const DAMAGED_LINES: u64 = 4096;
+/// Kinds in a job of one thread.
+const JOB: usize = 32;
+
+/// What a thread counted over layouts.
+#[derive(Default)]
+struct Layouts {
+    roles: Tally<Call>,
+    data: Tally<Call>,
+    continual: Tally<Call>,
+    one_short: Tally<Call>,
+}
+
+impl Layouts {
+    /// One mode and choice of kinds, in all four phases. The Rust's layout is made once.
+    fn compare(&mut self, mode: Mode, choice: u16) {
+        let layout = FrameLayout::new(mode, kinds_of_choice(choice));
+        let kinds = kind_bytes(choice);
+        for phase in 0..PHASES {
+            self.compare_role_map(&layout, phase, &kinds);
+            self.compare_data_list(&layout, phase, &kinds);
+        }
+        self.compare_continual_list(&layout, &kinds, choice);
+    }
+
+    fn compare_role_map(&mut self, layout: &FrameLayout, phase: u8, kinds: &[u8]) {
+        let (mode, len) = (layout.mode.number(), layout.k_total);
+        let answer = Ok(answers::roles(layout, usize::from(phase)));
+        let found = check::role_map(mode, phase, kinds, len, &answer, u64::from(phase));
+        self.roles.count(false, found, || Call::RoleMap {
+            mode,
+            phase,
+            kinds: kinds.to_vec(),
+            len,
+        });
+    }
+
+    fn compare_data_list(&mut self, layout: &FrameLayout, phase: u8, kinds: &[u8]) {
+        let (mode, len) = (layout.mode.number(), answers::data_count(layout.mode));
+        let answer = Ok(layout.data[usize::from(phase)].clone());
+        let found = check::data_list(mode, phase, kinds, len, &answer, u64::from(phase));
+        self.data.count(false, found, || Call::DataList {
+            mode,
+            phase,
+            kinds: kinds.to_vec(),
+            len,
+        });
+    }
+
+    /// The output is exact, or a little longer; then one short.
+    fn compare_continual_list(&mut self, layout: &FrameLayout, kinds: &[u8], choice: u16) {
+        let mode = layout.mode.number();
+        let list = answers::continual(layout);
+        let salt = u64::from(choice);
+        let call = |len| Call::ContinualList {
+            mode,
+            kinds: kinds.to_vec(),
+            len,
+        };
+        let (long, short) = (list.len() + usize::from(choice % 3), list.len() - 1);
+        let found = check::continual_list(mode, kinds, long, &Ok(list), salt);
+        self.continual.count(false, found, || call(long));
+        let refusal = Err(oracle::codes::BAD_LENGTH);
+        let found = check::continual_list(mode, kinds, short, &refusal, salt);
+        self.one_short.count(true, found, || call(short));
+    }
+}
+
+/// The choices of kinds to compare in a mode: all, or a sample that holds the plain ones.
+fn choices(mode: Mode, options: &Options) -> Vec<u16> {
+    if !options.quick {
+        return (0..KINDS).collect();
+    }
+    let mut rng = Rng::for_case(options.seed, stream::SAMPLE, u64::from(mode.number()));
+    let mut sample: BTreeSet<u16> = (0..SEGMENTS).map(|segment| 1 << segment).collect();
+    sample.extend([0, KINDS - 1]);
+    while sample.len() < SAMPLE {
+        sample.insert(rng.choice());
+    }
+    sample.into_iter().collect()
+}
+
+fn compare_layouts(options: &Options) -> Vec<Row> {
+    let in_mode = |mode| choices(mode, options).into_iter().map(move |c| (mode, c));
+    let all: Vec<(Mode, u16)> = MODES.into_iter().flat_map(in_mode).collect();
+    let jobs: Vec<&[(Mode, u16)]> = all.chunks(JOB).collect();
+    let parts = on_all_processors(jobs.len(), |job| {
+        let mut layouts = Layouts::default();
+        for &(mode, choice) in jobs[job] {
+            layouts.compare(mode, choice);
+        }
+        layouts
+    });
+    let mut total = Layouts::default();
+    for part in parts {
+        total.roles.add(part.roles);
+        total.data.add(part.data);
+        total.continual.add(part.continual);
+        total.one_short.add(part.one_short);
+    }
+    let which = if options.quick {
+        "a sample"
+    } else {
+        "every one"
+    };
+    vec![
+        total.roles.row(format!("role map, {which}")),
+        total.data.row(format!("data list, {which}")),
+        total.continual.row(format!("continual list, {which}")),
+        total
+            .one_short
+            .row(format!("continual list, {which}, one short")),
+    ]
+}
+
+/// Makes calls on all processors and counts them.
+fn compare_calls(count: usize, call: impl Fn(usize) -> Call + Sync) -> Tally<Call> {
+    let jobs = count.div_ceil(JOB);
+    Tally::sum(on_all_processors(jobs, |job| {
+        let mut tally = Tally::default();
+        for index in job * JOB..count.min((job + 1) * JOB) {
+            let call = call(index);
+            let Outcome {
+                refused,
+                difference,
+            } = call.run(index as u64);
+            tally.count(refused, difference, || call);
+        }
+        tally
+    }))
+}
+
+fn compare_list(calls: &[Call]) -> Tally<Call> {
+    compare_calls(calls.len(), |index| calls[index].clone())
+}
+
+fn every_bin() -> Vec<Call> {
+    let bins = |mode: Mode| {
+        let mode_number = mode.number();
+        (0..mode.total_carriers()).map(move |k| Call::CarrierBin {
+            mode: mode_number,
+            k,
+        })
+    };
+    MODES.into_iter().flat_map(bins).collect()
+}
+
+fn every_sign_map() -> Vec<Call> {
+    let map = |mode: Mode| Call::SignMap {
+        mode: mode.number(),
+        len: mode.total_carriers(),
+    };
+    MODES.map(map).to_vec()
+}
+
+fn compare_boundaries() -> Vec<Row> {
+    let row = |operation: Operation| {
+        let calls = calls::boundary(operation);
+        compare_list(&calls).row(format!("{}, boundaries", operation.name()))
+    };
+    Operation::ALL.map(row).into()
+}
+
+fn compare_random(options: &Options) -> Vec<Row> {
+    let row = |operation: Operation| {
+        let stream = stream::CALLS + operation as u64;
+        let call = |index| {
+            let mut rng = Rng::for_case(options.seed, stream, index as u64);
+            calls::random(operation, &mut rng)
+        };
+        let tally = compare_calls(options.cases as usize, call);
+        tally.row(format!("{}, random", operation.name()))
+    };
+    Operation::ALL.map(row).into()
+}
+
+/// Inputs that each take a run of the program: how they begin and end is what matters.
+fn whole_inputs(options: &Options) -> Vec<Vec<u8>> {
+    let good: &[u8] = b"2,3,CDCDCDCDCDCDC";
+    let mut inputs: Vec<Vec<u8>> = ["", "\n", "\n\n", "\r\n", "\r", "1", "1,0,", "\0"]
+        .map(|text| text.as_bytes().to_vec())
+        .to_vec();
+    for cut in [
+        good,
+        &good[..16],
+        b"4,3,CDCDCDCDCDCDC",
+        b"2,4,CDCDCDCDCDCDC",
+    ] {
+        for end in ["", "\n", "\n\n", "\r\n", "\r", "C", " ", "\0"] {
+            inputs.push([cut, end.as_bytes()].concat());
+        }
+        inputs.push([good, b"\n", cut].concat());
+    }
+    for len in [1 << 12, 1 << 16, 200_000, 1 << 20] {
+        for around in [len - 1, len, len + 1] {
+            let long = vec![b'C'; around];
+            inputs.push([&long, b"\n".as_slice(), good].concat());
+            inputs.push(long);
+        }
+    }
+    inputs.extend((0..64).map(|index| random_input(options.seed, index)));
+    inputs
+}
+
+/// Some good and some damaged lines, the last with or without its line feed.
+fn random_input(seed: u64, index: u64) -> Vec<u8> {
+    let mut rng = Rng::for_case(seed, stream::INPUTS, index);
+    let mut input = Vec::new();
+    for _ in 0..rng.below(2000) {
+        let good = rng.once_in(2);
+        let line = if good {
+            random_question(&mut rng)
+        } else {
+            damaged_line(&mut rng)
+        };
+        input.extend(line);
+        input.push(b'\n');
+    }
+    if rng.once_in(2) {
+        input.pop();
+    }
+    input
+}
+
+fn damaged_lines(options: &Options) -> Vec<Vec<u8>> {
+    let line = |index| damaged_line(&mut Rng::for_case(options.seed, stream::LINES, index));
+    (0..DAMAGED_LINES + options.cases).map(line).collect()
+}
+
+fn compare_segments(options: &Options) -> io::Result<Vec<Row>> {
+    let program = segments_program::path();
+    let every = segments_program::compare_lines(&program, &every_question())?;
+    let damaged = segments_program::compare_lines(&program, &damaged_lines(options))?;
+    let inputs = segments_program::compare_inputs(&program, &whole_inputs(options))?;
+    Ok(vec![
+        every.row("segments, every question"),
+        damaged.row("segments, damaged lines"),
+        inputs.row("segments, whole inputs"),
+    ])
+}
+
+fn main() -> ExitCode {
+    let options = options();
+    let mut rows = vec![
+        compare_list(&every_bin()).row("bin lookup, every one"),
+        compare_list(&every_sign_map()).row("sign map, every one"),
+    ];
+    rows.extend(compare_layouts(&options));
+    rows.extend(compare_boundaries());
+    rows.extend(compare_random(&options));
+    let segments = compare_segments(&options);
+    let failure = segments.map(|more| rows.extend(more)).err();
+    let differences = print_table(&rows);
+    println!(
+        "\nseed {}, {} random calls of each operation, {differences} differences",
+        options.seed, options.cases
+    );
+    if let Some(error) = failure {
+        let program = segments_program::path();
+        eprintln!("could not run {}: {error}", program.display());
+        return ExitCode::from(2);
+    }
+    ExitCode::from(u8::from(differences > 0))
+}

@@ -1,0 +1,168 @@
+//! Writes a sample of the oracle's answers, for programs that compare without Rust at hand.
+
+use oracle::answers;
+use oracle::args::Args;
+use oracle::codes::{KINDS, MODES, PHASES, kind_bytes, kinds_of_choice};
+use oracle::isdb::frame::FrameLayout;
+use oracle::isdb::ofdm::carrier_bin;
+use oracle::isdb::params::Mode;
+use oracle::rng::Rng;
+use oracle::segment_list::{answer, every_question, lines, random_question};
+use std::fs;
+use std::io::{self, Read, Write};
+use std::process::ExitCode;
+
+const USAGE: &str = "\
+store: write a sample of the oracle's answers
+
+  store [--seed N] FILE       write the binary sample of layouts to FILE
+  store --lines N [--seed N]  print N random questions for segments; `all` prints every one
+  store --answers             print the answers to the questions on standard input
+  --help                      this text
+
+The seed is 1 unless it is given. README.md describes the binary file.";
+
+/// What to write.
+enum Task {
+    Sample(String),
+    Lines(u64),
+    AllLines,
+    Answers,
+}
+
+fn task() -> (Task, u64) {
+    let mut args = Args::new(USAGE);
+    let (mut task, mut seed) = (None, 1);
+    while let Some(word) = args.next_word() {
+        let given = match word.as_str() {
+            "--seed" => {
+                seed = args.number("--seed");
+                continue;
+            }
+            "--answers" => Task::Answers,
+            "--lines" => lines_task(&mut args),
+            option if option.starts_with('-') => args.fail(format!("unknown word {option}")),
+            _ => Task::Sample(word),
+        };
+        if task.replace(given).is_some() {
+            args.fail("only one thing can be written");
+        }
+    }
+    match task {
+        Some(task) => (task, seed),
+        None => args.fail("nothing to write"),
+    }
+}
+
+fn lines_task(args: &mut Args) -> Task {
+    let word = args.value("--lines");
+    match word.parse() {
+        Ok(count) => Task::Lines(count),
+        Err(_) if word == "all" => Task::AllLines,
+        Err(_) => args.fail(format!("--lines needs a number or all, not {word}")),
+    }
+}
+
+/// Appends numbers as two bytes each, the low one first.
+fn push_u16(out: &mut Vec<u8>, numbers: impl IntoIterator<Item = usize>) {
+    for number in numbers {
+        let narrow = u16::try_from(number).expect("carriers, bins and counts are below 65,536");
+        out.extend(narrow.to_le_bytes());
+    }
+}
+
+/// One record: mode, phase, kinds, roles, signs, data list, continual list with its count, bins.
+fn record(mode: Mode, phase: u8, choice: u16) -> Vec<u8> {
+    let layout = FrameLayout::new(mode, kinds_of_choice(choice));
+    let at = usize::from(phase);
+    let continual = answers::continual(&layout);
+    let wide = |&k: &u32| k as usize;
+    let mut out = vec![mode.number(), phase];
+    out.extend(kind_bytes(choice));
+    out.extend(answers::roles(&layout, at));
+    out.extend(answers::signs(mode));
+    push_u16(&mut out, layout.data[at].iter().map(wide));
+    push_u16(&mut out, [continual.len()]);
+    push_u16(&mut out, continual.iter().map(wide));
+    push_u16(&mut out, (0..layout.k_total).map(|k| carrier_bin(mode, k)));
+    out
+}
+
+/// Every mode and phase twice: with all segments of one kind, by turns, and with random kinds.
+fn sample(seed: u64) -> Vec<u8> {
+    let mut rng = Rng::new(seed);
+    let mut out = Vec::new();
+    for mode in MODES {
+        for phase in 0..PHASES {
+            let alike = if (mode.number() + phase) % 2 == 1 {
+                0
+            } else {
+                KINDS - 1
+            };
+            out.extend(record(mode, phase, alike));
+            out.extend(record(mode, phase, rng.choice()));
+        }
+    }
+    out
+}
+
+fn print_lines(lines: impl IntoIterator<Item = Vec<u8>>) -> io::Result<()> {
+    let mut out = Vec::new();
+    for line in lines {
+        out.extend(line);
+        out.push(b'\n');
+    }
+    io::stdout().write_all(&out)
+}
+
+fn print_answers() -> io::Result<()> {
+    let mut input = Vec::new();
+    io::stdin().read_to_end(&mut input)?;
+    let mut out = io::BufWriter::new(io::stdout());
+    for line in lines(&input) {
+        out.write_all(answer(line).as_bytes())?;
+    }
+    out.flush()
+}
+
+fn main() -> ExitCode {
+    let (task, seed) = task();
+    let mut rng = Rng::new(seed);
+    let done = match task {
+        Task::Sample(path) => fs::write(path, sample(seed)),
+        Task::Lines(count) => print_lines((0..count).map(|_| random_question(&mut rng))),
+        Task::AllLines => print_lines(every_question()),
+        Task::Answers => print_answers(),
+    };
+    match done {
+        Ok(()) => ExitCode::SUCCESS,
+        Err(error) => {
+            eprintln!("could not write: {error}");
+            ExitCode::FAILURE
+        }
+    }
+}
+
+#[cfg(test)]
+mod tests {
+    use super::*;
+
+    #[test]
+    fn sample_is_small_and_begins_with_a_plain_layout() {
+        let sample = sample(1);
+        assert!(sample.len() < 600_000);
+        assert_eq!(sample[..15], [1, 0, 0, 0, 0, 0, 0, 0, 0, 0, 0, 0, 0, 0, 0]);
+        // Carrier 648 is SP, 683 AC1, 697 TMCC, and the last one is the edge.
+        assert_eq!([648, 683, 697, 1404].map(|k| sample[15 + k]), [1, 4, 3, 6]);
+    }
+
+    #[test]
+    fn record_has_every_part() {
+        for mode in MODES {
+            let (k, nc) = (mode.total_carriers(), mode.data_carriers_per_segment());
+            let count = 13 * (mode.scale() * 3) + 1;
+            let len = 15 + 2 * k + 2 * 13 * nc + 2 + 2 * count + 2 * k;
+            assert_eq!(record(mode, 0, 0).len(), len);
+        }
+    }
+}

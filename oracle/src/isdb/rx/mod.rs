@@ -1,0 +1,17 @@
+// Carried over from isdb-rs 754ed06c49 (Apache-2.0, see NOTICE).
+// From crates/isdbt-ofdm/src/rx/mod.rs. Changed: `continual_list` is public. Left out: everything
+// else of that file.
+
+use crate::isdb::frame::FrameLayout;
+
+/// Continual carriers of a layout: TMCC, AC, differential CPs, band edge.
+pub fn continual_list(layout: &FrameLayout) -> Vec<usize> {
+    layout
+        .tmcc
+        .iter()
+        .map(|t| t.k as usize)
+        .chain(layout.ac.iter().map(|a| a.k as usize))
+        .chain(layout.cp.iter().map(|&k| k as usize))
+        .chain(std::iter::once(layout.edge as usize))
+        .collect()
+}

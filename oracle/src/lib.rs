@@ -1,0 +1,21 @@
+//! The oracle: the Rust of isdb-rs, and what holds the proved port against it.
+//!
+//! `isdb` is the Rust that was carried over. `answers` turns it into the port's operations, with
+//! refusals where the Rust would panic. `ffi` calls the port. `check` makes one call to the port and
+//! compares all it gives and leaves behind. The programs are in src/bin.
+
+pub mod answers;
+pub mod args;
+pub mod calls;
+pub mod check;
+pub mod codes;
+pub mod complex;
+pub mod ffi;
+pub mod isdb;
+pub mod lent;
+pub mod rng;
+pub mod segment_list;
+pub mod segments_program;
+pub mod tally;
+
+pub use complex::C32;

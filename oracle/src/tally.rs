@@ -1,0 +1,154 @@
+//! Counting cases and differences, over several threads, and the table that is printed.
+
+use std::fmt::Display;
+use std::sync::atomic::{AtomicUsize, Ordering};
+use std::thread;
+
+/// What came of a number of cases whose inputs are of type `K`.
+#[derive(Debug)]
+pub struct Tally<K> {
+    cases: u64,
+    refused: u64,
+    differences: u64,
+    smallest: Option<(K, String)>,
+}
+
+impl<K> Default for Tally<K> {
+    fn default() -> Self {
+        Self {
+            cases: 0,
+            refused: 0,
+            differences: 0,
+            smallest: None,
+        }
+    }
+}
+
+impl<K: Ord + Display> Tally<K> {
+    /// Counts a case. `input` is asked for only where there is a difference.
+    pub fn count(&mut self, refused: bool, difference: Option<String>, input: impl FnOnce() -> K) {
+        self.cases += 1;
+        self.refused += u64::from(refused);
+        if let Some(found) = difference {
+            self.differences += 1;
+            self.keep_smaller(input(), found);
+        }
+    }
+
+    /// Adds what another tally counted.
+    pub fn add(&mut self, other: Self) {
+        self.cases += other.cases;
+        self.refused += other.refused;
+        self.differences += other.differences;
+        if let Some((input, found)) = other.smallest {
+            self.keep_smaller(input, found);
+        }
+    }
+
+    /// The sum of tallies.
+    pub fn sum(parts: impl IntoIterator<Item = Self>) -> Self {
+        let mut total = Self::default();
+        parts.into_iter().for_each(|part| total.add(part));
+        total
+    }
+
+    fn keep_smaller(&mut self, input: K, found: String) {
+        let smaller = match &self.smallest {
+            Some((kept, _)) => input < *kept,
+            None => true,
+        };
+        if smaller {
+            self.smallest = Some((input, found));
+        }
+    }
+
+    /// The row of the table.
+    pub fn row(self, name: impl Into<String>) -> Row {
+        Row {
+            name: name.into(),
+            cases: self.cases,
+            refused: self.refused,
+            differences: self.differences,
+            smallest: self
+                .smallest
+                .map(|(input, found)| format!("{input}\n    {found}")),
+        }
+    }
+}
+
+/// A row of the table.
+#[derive(Debug)]
+pub struct Row {
+    name: String,
+    cases: u64,
+    refused: u64,
+    differences: u64,
+    smallest: Option<String>,
+}
+
+/// Prints the table and the smallest failing inputs. Gives the number of differences.
+pub fn print_table(rows: &[Row]) -> u64 {
+    println!("| operation | cases | refused | differences |");
+    println!("|---|---:|---:|---:|");
+    for row in rows {
+        let (name, cases) = (&row.name, row.cases);
+        println!(
+            "| {name} | {cases} | {} | {} |",
+            row.refused, row.differences
+        );
+    }
+    for row in rows {
+        if let Some(smallest) = &row.smallest {
+            println!(
+                "\nsmallest failing input of \"{}\":\n  {smallest}",
+                row.name
+            );
+        }
+    }
+    rows.iter().map(|row| row.differences).sum()
+}
+
+/// Runs jobs 0 to `jobs` − 1 on all processors and gathers what they give.
+pub fn on_all_processors<T: Send>(jobs: usize, job: impl Fn(usize) -> T + Sync) -> Vec<T> {
+    let workers = thread::available_parallelism().map_or(1, usize::from);
+    let next = AtomicUsize::new(0);
+    let work = || {
+        let mut done = Vec::new();
+        loop {
+            let index = next.fetch_add(1, Ordering::Relaxed);
+            if index >= jobs {
+                return done;
+            }
+            done.push(job(index));
+        }
+    };
+    thread::scope(|scope| {
+        let handles: Vec<_> = (0..workers).map(|_| scope.spawn(work)).collect();
+        let parts = handles.into_iter().map(|handle| handle.join());
+        parts
+            .flat_map(|part| part.expect("a worker does not panic"))
+            .collect()
+    })
+}
+
+#[cfg(test)]
+mod tests {
+    use super::*;
+
+    #[test]
+    fn keeps_the_smallest_failing_input() {
+        let mut tally = Tally::default();
+        for (input, fails) in [(5, true), (1, false), (3, true), (9, true)] {
+            tally.count(false, fails.then(|| format!("bad {input}")), || input);
+        }
+        assert_eq!((tally.cases, tally.differences), (4, 3));
+        assert_eq!(tally.smallest, Some((3, "bad 3".to_string())));
+    }
+
+    #[test]
+    fn every_job_runs_once() {
+        let mut done = on_all_processors(100, |index| index);
+        done.sort_unstable();
+        assert_eq!(done, (0..100).collect::<Vec<_>>());
+    }
+}
