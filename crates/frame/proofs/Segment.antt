@@ -5,10 +5,13 @@ use mathlib.Core.Bool.{Bool, true, false, cond}
 use mathlib.Core.List.{List}
 use mathlib.Core.Path.{_≡_, refl, sym, ap, _∙_}
 use native.Mathlib.Omega.{arith}
+use borrow.Author.Tests.{le-leb, eqb-true}
+use lib.Dec.{leb, eqb}
 use lib.ListN.{length, getD, take}
 use lib.Seq.{getD-take, ext-getD}
 use Rattle.lists.specs.Lists.{upTo}
 use Rattle.lists.specs.Tests.{memb}
+use Rattle.lists.specs.Truth.{always5-at}
 use Rattle.lists.specs.Select.{length-upTo, getD-upTo}
 use Rattle.params.specs.declared.Mode.{Mode}
 use Rattle.params.specs.Params.{carriersPerSegment}
@@ -17,6 +20,7 @@ use Rattle.tables.specs.Places.{Listed, tmccOf, ac1Of, ac2Of, isSp, isCp, one, 
 use Rattle.tables.specs.Rule.{apart}
 use Rattle.frame.specs.declared.AcKind.the-variants.{Ac1, Ac2}
 use Rattle.frame.specs.declared.CarrierRole.the-variants.{Data, Sp, Cp, Tmcc, Ac}
+use Rattle.frame.specs.OneRole.{first}
 use Rattle.frame.specs.Roles.{OfdmSegment, roleByte, placeRole, segmentRoles}
 use Rattle.frame.specs.Written.{pilotByte, markedAt, marked, Markable}
 use Rattle.frame.proofs.Marked.{length-marked, marked-at}
@@ -33,26 +37,17 @@ markable r xs out n l short below e =
           omega arith;
     }
 
--- of at most one claim it does not matter which is asked first
-any-order : (sp cp t a b : Bool) → one sp + (one cp + (one t + (one a + one b))) ≤ 1
-    → cond b (roleByte (Ac Ac2)) (cond a (roleByte (Ac Ac1)) (cond t (roleByte Tmcc) (cond sp (roleByte Sp) (cond cp (roleByte Cp) (roleByte Data)))))
-    ≡ roleByte (cond sp Sp (cond cp Cp (cond t Tmcc (cond a (Ac Ac1) (cond b (Ac Ac2) Data)))))
-any-order true true t a b h = absurd (omega arith)
-any-order true false true a b h = absurd (omega arith)
-any-order true false false true b h = absurd (omega arith)
-any-order true false false false true h = absurd (omega arith)
-any-order true false false false false h = refl
-any-order false true true a b h = absurd (omega arith)
-any-order false true false true b h = absurd (omega arith)
-any-order false true false false true h = absurd (omega arith)
-any-order false true false false false h = refl
-any-order false false true true b h = absurd (omega arith)
-any-order false false true false true h = absurd (omega arith)
-any-order false false true false false h = refl
-any-order false false false true true h = absurd (omega arith)
-any-order false false false true false h = refl
-any-order false false false false true h = refl
-any-order false false false false false h = refl
+-- the bytes of what claims a place, the last rule of the tables asked first; and of at most one claim the order does not matter
+abbrev lastFirst : Bool → Bool → Bool → Bool → Bool → ℕ
+lastFirst sp cp t a b =
+    cond b (roleByte (Ac Ac2)) (cond a (roleByte (Ac Ac1)) (cond t (roleByte Tmcc) (cond sp (roleByte Sp) (cond cp (roleByte Cp) (roleByte Data)))))
+
+abbrev orderTest : Bool → Bool → Bool → Bool → Bool → Bool
+orderTest sp cp t a b =
+    cond (leb (one sp + (one cp + (one t + (one a + one b)))) 1) (eqb (lastFirst sp cp t a b) (roleByte (first sp cp t a b))) true
+
+any-order : (sp cp t a b : Bool) → one sp + (one cp + (one t + (one a + one b))) ≤ 1 → lastFirst sp cp t a b ≡ roleByte (first sp cp t a b)
+any-order sp cp t a b h = eqb-true _ _ (rw (le-leb _ _ h) at (always5-at orderTest refl sp cp t a b))
 
 module _ (mode : Mode) (s : OfdmSegment) (phase : ℕ) (in-table : s .row < 13) (in-cycle : phase < 4) where
   abbrev pilots : List ℕ

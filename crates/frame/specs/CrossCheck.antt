@@ -9,6 +9,7 @@ use native.Mathlib.Omega.{arith}
 use native.Mathlib.Decide.{decLt}
 use native.Mathlib.Nat.{add-comm, zero-add, suc-add, suc-mul, not-suc-le-zero}
 use lib.Dec.{lit<}
+use lib.Ieee.{binary32, ofBits, div}
 use lib.ListN.{getD, take}
 use lib.Seq.{getD-take}
 use Rattle.params.specs.declared.Mode.{Mode}
@@ -17,7 +18,7 @@ use Rattle.params.specs.Params.{carriersPerSegment}
 use Rattle.tables.specs.Rows.{diffAc1, diffAc2, diffTmcc, cohAc1, cohTmcc}
 use Rattle.tables.specs.Places.{initOf}
 use Rattle.ofdm.specs.Band.{segmentAt}
-use Rattle.frame.specs.Signs.{loaded, xor, after, signAfter, edgeSign}
+use Rattle.frame.specs.Signs.{loaded, xor, after, signAfter, edgeSign, pilotAmplitude}
 
 -- two functions whose values below n antt finds alike agree at each number below n
 abbrev values : {A : Type 0} → (ℕ → A) → ℕ → List A
@@ -146,3 +147,8 @@ pub ac1-alike : (mode : Mode) → cohAc1 mode ≡ diffAc1 mode
 ac1-alike M1 = refl
 ac1-alike M2 = refl
 ac1-alike M3 = refl
+
+-- the pilots' amplitude is 4 divided by 3, rounded to f32
+pub four-thirds : div binary32 (ofBits binary32 0x4080_0000) (ofBits binary32 0x4040_0000) ≡ pilotAmplitude
+unfolding ofBits div
+four-thirds = refl

@@ -1,0 +1,1 @@
+// The requirement's checked values, proved in one table: specs/Checked.antt. There is no code here.
