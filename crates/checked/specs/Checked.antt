@@ -13,7 +13,7 @@ use Rattle.frame.specs.declared.AcKind.the-variants.{Ac1, Ac2}
 use Rattle.frame.specs.declared.CarrierRole.{CarrierRole}
 use Rattle.frame.specs.declared.CarrierRole.the-variants.{Sp, Cp, Tmcc, Ac}
 use Rattle.frame.specs.Roles.{roleByte, placeRole, segmentRoles, bandRoles, wide}
-use Rattle.frame.specs.Signs.{after, segmentSigns, bandSigns}
+use Rattle.prbs.specs.Signs.{after, segmentSigns, bandSigns}
 
 -- all coherent; and segment 0 differential
 abbrev coherent : List ℕ

@@ -1,9 +1,3 @@
-pub mod Register
 pub mod Marked
 pub mod Segment
 pub mod Copied
-pub mod Collecting
-pub mod Bands
-pub mod Returns
-pub mod Stored
-pub mod Buffered

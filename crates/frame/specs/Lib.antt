@@ -1,9 +1,7 @@
 pub mod Roles
 pub mod Rules
 pub mod OneRole
-pub mod DataList
-pub mod Continual
-pub mod Signs
+pub mod RowsLaid
 pub mod Operations
 pub mod Written
-pub mod CrossCheck
+pub mod Returns

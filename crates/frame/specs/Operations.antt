@@ -1,22 +1,19 @@
--- What each operation answers and what it leaves in its lent buffer, for every input. A mode comes as a number from outside, so the
--- first case of each definition is the number that is no mode.
+-- What an operation on a layout answers and what it leaves in its lent buffer, for every input. A mode comes as a number from outside,
+-- so the first case of each definition is the number that is no mode.
 -- Assumes nothing.
-use Prim.Native.Nat.{ℕ, _*_}
+use Prim.Native.Nat.{ℕ}
 use mathlib.Core.Bool.{Bool, cond, _&&_}
-use mathlib.Core.List.{List, _++_}
+use mathlib.Core.List.{List}
 use mathlib.Core.Path.{_≡_}
 use lib.Dec.{eqb, leb, ltb}
-use lib.ListN.{length, drop}
+use lib.ListN.{length}
 use Rattle.lists.specs.Refusals.{unless}
 use Rattle.lists.specs.Tests.{allIn}
 use Rattle.params.specs.declared.Mode.{Mode}
 use Rattle.params.specs.declared.ModeNumber.{ModeNumber}
 use Rattle.params.specs.declared.ModeNumber.the-variants.{Known, Unknown}
-use Rattle.params.specs.Params.{dataCarriersPerSegment, totalCarriers}
-use Rattle.frame.specs.declared.ContinualList.{ContinualList}
-use Rattle.frame.specs.declared.ContinualList.the-variants.{Count, Refused}
-use Rattle.frame.specs.Roles.{bandRoles, wide, dataList, continualList}
-use Rattle.frame.specs.Signs.{bandSigns}
+use Rattle.params.specs.Params.{totalCarriers}
+use Rattle.frame.specs.Roles.{bandRoles, wide}
 
 -- thirteen kinds of 0 or 1
 abbrev pub areKinds : List ℕ → Bool
@@ -44,41 +41,3 @@ pub record SymbolAnswer (size : Mode → ℕ) (list : Mode → List ℕ) (mode :
 -- the role map: k_total bytes, the roles of the wide band
 abbrev pub RoleMap : ModeNumber → ℕ → List ℕ → List ℕ → ℕ → List ℕ → Type 0
 RoleMap mode phase kinds out r out' = SymbolAnswer totalCarriers (λ m. bandRoles m phase (wide kinds)) mode phase kinds out r out'
-
--- the data list: 13 × nc numbers
-abbrev pub DataList : ModeNumber → ℕ → List ℕ → List ℕ → ℕ → List ℕ → Type 0
-DataList mode phase kinds out r out' =
-    SymbolAnswer (λ m. 13 * dataCarriersPerSegment m) (λ m. dataList m phase kinds) mode phase kinds out r out'
-
--- the sign map: 1; 7 unless the output is k_total bytes
-unfoldable pub signMapCode : ModeNumber → ℕ → ℕ
-signMapCode Unknown n = 1
-signMapCode (Known m) n = unless (eqb n (totalCarriers m)) 7 0
-
-unfoldable pub signMapLeaves : ModeNumber → List ℕ → List ℕ
-signMapLeaves Unknown out = out
-signMapLeaves (Known m) out = cond (eqb (signMapCode (Known m) (length out)) 0) (bandSigns m) out
-
-pub record SignMap (mode : ModeNumber) (out : List ℕ) (r : ℕ) (out' : List ℕ) : Type 0 where
-  pub code : r ≡ signMapCode mode (length out)
-  pub leaves : out' ≡ signMapLeaves mode out
-
--- the continual list: 1; 2; 7 if the output is shorter than the count; what lies beyond keeps its contents
-unfoldable pub continualListCode : ModeNumber → List ℕ → ℕ → ℕ
-continualListCode Unknown kinds n = 1
-continualListCode (Known m) kinds n = unless (areKinds kinds) 2 (unless (leb (length (continualList m kinds)) n) 7 0)
-
--- the count is handed back
-unfoldable pub continualListAnswer : ModeNumber → List ℕ → ℕ → ContinualList
-continualListAnswer Unknown kinds n = Refused 1
-continualListAnswer (Known m) kinds n =
-    cond (eqb (continualListCode (Known m) kinds n) 0) (Count (length (continualList m kinds))) (Refused (continualListCode (Known m) kinds n))
-
-unfoldable pub continualListLeaves : ModeNumber → List ℕ → List ℕ → List ℕ
-continualListLeaves Unknown kinds out = out
-continualListLeaves (Known m) kinds out =
-    cond (eqb (continualListCode (Known m) kinds (length out)) 0) (continualList m kinds ++ drop (length (continualList m kinds)) out) out
-
-pub record ContinualListed (mode : ModeNumber) (kinds out : List ℕ) (r : ContinualList) (out' : List ℕ) : Type 0 where
-  pub answer : r ≡ continualListAnswer mode kinds (length out)
-  pub leaves : out' ≡ continualListLeaves mode kinds out

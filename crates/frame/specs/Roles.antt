@@ -1,18 +1,17 @@
 -- The role of each carrier (ARIB STD-B31, Figures 3-29 and 3-30, Tables 3-14 and 3-15), of a segment and of a band.
 -- Assumes nothing.
-use Prim.Native.Nat.{ℕ, _*_, _-_, _/_, _%_}
-use mathlib.Core.Bool.{Bool, true, false, cond, not, _&&_, _||_}
+use Prim.Native.Nat.{ℕ}
+use mathlib.Core.Bool.{Bool, cond, _&&_}
 use mathlib.Core.List.{List, [], _∷_, _++_, map}
-use lib.Dec.{eqb, leb}
-use lib.ListN.{length, getD}
-use Rattle.lists.specs.Lists.{upTo, range, joined, select, chosen}
+use lib.Dec.{leb}
+use lib.ListN.{getD}
+use Rattle.lists.specs.Lists.{upTo, joined}
 use Rattle.lists.specs.Tests.{memb}
 use Rattle.params.specs.declared.Mode.{Mode}
 use Rattle.params.specs.declared.SegmentKind.{SegmentKind}
-use Rattle.params.specs.declared.SegmentKind.the-variants.{Coherent, Differential}
-use Rattle.params.specs.Params.{carriersPerSegment, totalCarriers, kindFrom}
+use Rattle.params.specs.Params.{carriersPerSegment, kindFrom}
 use Rattle.tables.specs.Places.{tmccOf, ac1Of, ac2Of, isSp, isCp}
-use Rattle.ofdm.specs.Band.{order, placeOf}
+use Rattle.ofdm.specs.Band.{order}
 use Rattle.frame.specs.declared.AcKind.{AcKind}
 use Rattle.frame.specs.declared.AcKind.the-variants.{Ac1, Ac2}
 use Rattle.frame.specs.declared.CarrierRole.{CarrierRole}
@@ -77,21 +76,3 @@ isTmcc = between (roleByte Tmcc) (roleByte Tmcc)
 
 abbrev pub isAc : ℕ → Bool
 isAc = between (roleByte (Ac Ac1)) (roleByte (Ac Ac2))
-
--- the data carriers of segment seg of the wide band, ascending
-unfoldable pub segmentData : Mode → ℕ → List ℕ → ℕ → List ℕ
-segmentData mode phase kinds seg =
-    chosen isData (placeOf seg * carriersPerSegment mode) (segmentRoles mode phase (wideSegment kinds seg))
-
--- the data list: in segment-number order
-unfoldable pub dataList : Mode → ℕ → List ℕ → List ℕ
-dataList mode phase kinds = joined (segmentData mode phase kinds) (range 13)
-
--- the continual list: all TMCC carriers, all AC carriers, all CP carriers, each group ascending, then the edge.
--- None of these hangs on the phase, so phase 0 serves.
-unfoldable pub continualList : Mode → List ℕ → List ℕ
-continualList mode kinds =
-    chosen isTmcc 0 (bandRoles mode 0 (wide kinds))
-    ++ (chosen isAc 0 (bandRoles mode 0 (wide kinds))
-    ++ (chosen isCpByte 0 (bandRoles mode 0 (wide kinds))
-    ++ ((totalCarriers mode - 1) ∷ [])))

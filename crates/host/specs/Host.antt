@@ -9,9 +9,9 @@ use Rattle.params.specs.declared.ModeNumber.{ModeNumber}
 use Rattle.ofdm.specs.declared.BinLookup.{BinLookup}
 use Rattle.ofdm.specs.declared.BinLookup.the-variants as bin-lookup
 use Rattle.ofdm.specs.Band.{binLookup}
-use Rattle.frame.specs.declared.ContinualList.{ContinualList}
-use Rattle.frame.specs.declared.ContinualList.the-variants as continual-list
-use Rattle.frame.specs.Operations.{continualListAnswer, continualListLeaves}
+use Rattle.carrier_lists.specs.declared.ContinualList.{ContinualList}
+use Rattle.carrier_lists.specs.declared.ContinualList.the-variants as continual-list
+use Rattle.carrier_lists.specs.Operations.{continualListAnswer, continualListLeaves}
 
 -- 0 and the bin, or the refusal's number and what was lent
 abbrev pub binCode : BinLookup → ℕ

@@ -3,9 +3,11 @@
 // 0 or the refusal's number, and a refusal leaves everything lent as it was.
 ghost use mathlib.Core.Path.{_≡_};
 ghost use Rattle.params.specs.Params.{modeFrom};
-ghost use Rattle.frame.specs.Operations.{RoleMap, SignMap, DataList};
+ghost use Rattle.prbs.specs.SignMap.{SignMap};
+ghost use Rattle.frame.specs.Operations.{RoleMap};
+ghost use Rattle.carrier_lists.specs.Operations.{DataList};
 ghost use Rattle.host.specs.Host.{CarrierBin, ContinualCount};
-use frame::ContinualList;
+use carrier_lists::ContinualList;
 use ofdm::BandCarrier;
 use ofdm::BinLookup;
 
@@ -36,7 +38,7 @@ pub extern "C" fn sillurwy_role_map(mode: u8, phase: u8, kinds: &[u8], out: &mut
 pub extern "C" fn sillurwy_sign_map(mode: u8, out: &mut [u8]) -> u8
     ensures { λ r. ⌜ SignMap (modeFrom mode) (now (out .entry)) r (now (out .exit)) ⌝ }
 {
-    frame::sign_map(mode, out)
+    prbs::sign_map(mode, out)
 }
 
 // The data carriers of the band, in segment-number order.
@@ -44,7 +46,7 @@ pub extern "C" fn sillurwy_sign_map(mode: u8, out: &mut [u8]) -> u8
 pub extern "C" fn sillurwy_data_list(mode: u8, phase: u8, kinds: &[u8], out: &mut [u32]) -> u8
     ensures { λ r. ⌜ DataList (modeFrom mode) phase (now (kinds .entry)) (now (out .entry)) r (now (out .exit)) ⌝ }
 {
-    frame::data_list(mode, phase, kinds, out)
+    carrier_lists::data_list(mode, phase, kinds, out)
 }
 
 // The continual carriers of the band, and how many there are.
@@ -57,7 +59,7 @@ pub extern "C" fn sillurwy_continual_list(
 ) -> u8
     ensures { λ r. ⌜ ContinualCount (modeFrom mode) (now (kinds .entry)) (now (out .entry)) (now (count .entry)) r (now (out .exit)) (now (count .exit)) ⌝ }
 {
-    match frame::continual_list(mode, kinds, out) {
+    match carrier_lists::continual_list(mode, kinds, out) {
         ContinualList::Count(n) => {
             *count = n;
             0

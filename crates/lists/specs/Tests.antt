@@ -59,3 +59,16 @@ allIn-stop f t i h e = rw (drop-cons t i 0 h, e)
 
 pub allIn-pass : (f : ℕ → Bool) (t : List ℕ) (i : ℕ) → i < length t → f (getD t i 0) ≡ true → allIn f (drop i t) ≡ allIn f (drop (i + 1) t)
 allIn-pass f t i h e = rw (drop-cons t i 0 h, e, add-one)
+
+-- two functions whose values below n antt finds alike agree at each number below n
+abbrev pub values : {A : Type 0} → (ℕ → A) → ℕ → List A
+values f zero = []
+values f (suc n) = f n ∷ values f n
+
+pub agree : {A : Type 0} (f g : ℕ → A) (n : ℕ) → values f n ≡ values g n → (k : ℕ) → k < n → f k ≡ g k
+agree f g zero e k h = absurd (not-suc-le-zero h)
+agree f g (suc n) e k h = last (decLt k n) (λ l. agree f g n (cc) k l)
+  where
+    last : Dec (k < n) → (k < n → f k ≡ g k) → f k ≡ g k
+    last (yes l) r = r l
+    last (no l) r = let q : k ≡ n = omega arith in rw q (cc)

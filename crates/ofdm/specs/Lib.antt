@@ -1,2 +1,3 @@
 pub mod Band
 pub mod Laws
+pub mod Bands

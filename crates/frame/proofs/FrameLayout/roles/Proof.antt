@@ -14,7 +14,7 @@ use Rattle.params.specs.Params.{kindFrom}
 use Rattle.ofdm.specs.Band.{order, segmentAt}
 use Rattle.frame.specs.declared.CarrierRole.the-variants.{EdgeCp}
 use Rattle.frame.specs.Roles.{roleByte, ofdmSegment, segmentRoles, bandRoles, wideSegment, wide}
-use Rattle.frame.proofs.Bands.{WrittenTo, begin, part-ends, part-small, part-size, again, edge-inside, finish}
+use Rattle.ofdm.specs.Bands.{WrittenTo, begin, part-ends, part-small, part-size, again, edge-inside, finish}
 use borrow.Author.Needs.{needs}
 use native.Mathlib.Omega.{arith}
 use Rattle.frame.proofs.FrameLayout.roles.Statement.{statement}

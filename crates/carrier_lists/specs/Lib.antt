@@ -1,0 +1,5 @@
+pub mod CarrierLists
+pub mod DataList
+pub mod Continual
+pub mod Operations
+pub mod Written

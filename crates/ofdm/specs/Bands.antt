@@ -1,0 +1,60 @@
+-- A band that is written segment by segment: bounds of its parts, the whole once the edge is written.
+-- Assumes nothing.
+use Prim.Native.Nat.{ℕ, zero, suc, _+_, _*_, _-_, _≤_, _<_}
+use mathlib.Core.List.{List, [], _∷_, _++_}
+use mathlib.Core.Path.{_≡_, refl, sym, ap, subst, _∙_}
+use native.Mathlib.Nat.{suc-mul, zero-mul, mul-le-mul-right}
+use native.Mathlib.Omega.{arith}
+use borrow.Rule.Slice.PartMut.{midOf, putMid, mid-len}
+use lib.ListN.{length, getD, take, drop, set}
+use Rattle.lists.specs.Lists.{joined}
+use Rattle.lists.specs.Fill.{parts-again, parts-last, joined-map}
+use Rattle.params.specs.declared.Mode.{Mode}
+use Rattle.params.specs.Params.{carriersPerSegment, totalCarriers}
+use Rattle.params.specs.Laws.{sized}
+use Rattle.ofdm.specs.Band.{order}
+
+module _ (mode : Mode) (f : ℕ → List ℕ) (size : (seg : ℕ) → length (f seg) ≡ carriersPerSegment mode) (old : List ℕ) where
+  -- the segments below place are written; c is the code's count of a segment's carriers
+  pub record WrittenTo (c place : ℕ) (out : List ℕ) : Type 0 where
+    pub carriers : c ≡ carriersPerSegment mode
+    pub band : length old ≡ totalCarriers mode
+    pub passed : place ≤ 13
+    pub same-size : length out ≡ length old
+    pub front : out ≡ joined f (take place order) ++ drop (place * c) old
+
+  pub begin : (c : ℕ) → c ≡ carriersPerSegment mode → length old ≡ totalCarriers mode → WrittenTo c 0 old
+  begin c e l = record { carriers = e; band = l; passed = omega arith; same-size = refl; front = rw zero-mul }
+
+  module _ (c place : ℕ) (out : List ℕ) (w : WrittenTo c place out) where
+    pub part-ends : place < 13 → place * c + c < length old
+    part-ends h =
+        let e : place * c + c ≤ 13 * c = rw (suc-mul place c) at (mul-le-mul-right c h) in
+        omega (arith, w .carriers, w .band, sized mode .band)
+
+    pub part-small : length old ≤ 5617
+    part-small = omega (arith, w .band, sized mode .band-high)
+
+    pub part-size : place < 13 → length (midOf (place * c) (place * c + c - place * c) out) ≡ carriersPerSegment mode
+    part-size h =
+        let whole : place * c + c - place * c ≡ c = omega arith in
+        mid-len (place * c) (place * c + c) out (omega (arith, part-ends h, w .same-size)) ∙ (whole ∙ w .carriers)
+
+    pub again : (part out' : List ℕ) → place < 13 → length out' ≡ length out → part ≡ f (getD order place 0)
+        → out' ≡ putMid (place * c) (place * c + c - place * c) out part → WrittenTo c (place + 1) out'
+    again part out' h same e put =
+        record {
+          carriers = w .carriers;
+          band = w .band;
+          passed = omega arith;
+          same-size = same ∙ w .same-size;
+          front = put ∙ parts-again f c (λ s. size s ∙ sym (w .carriers)) order old out part place h (w .front) e;
+        }
+
+    pub edge-inside : 13 * c < length old
+    edge-inside = omega (arith, w .carriers, w .band, sized mode .band)
+
+    pub finish : (v : ℕ) → 13 ≤ place → set out (13 * c) v ≡ joined f order ++ (v ∷ [])
+    finish v h =
+        let last : place ≡ 13 = omega (arith, w .passed) in
+        parts-last f c (λ s. size s ∙ sym (w .carriers)) order old out place v last (omega (arith, w .carriers, w .band, sized mode .band)) (w .front)

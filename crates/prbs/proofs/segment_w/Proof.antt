@@ -1,0 +1,29 @@
+-- `prbs::segment_w` meets its contract: the register is loaded with the segment's row and run over its c carriers.
+-- Assumes nothing.
+use mathlib.Core.Path.{_∙_, ap}
+use Rattle.lists.specs.Lists.{upTo}
+use Rattle.prbs.specs.Signs.{segmentSigns, loaded, signAfter}
+use borrow.Author.Needs.{needs}
+use Rattle.prbs.proofs.segment_w.Statement.{statement}
+use Rattle.prbs.proofs.segment_w.Tie as tie
+
+prbs-segment-init-requires : tie.Need-prbs-segment-init-requires
+prbs-segment-init-requires c κs = search needs
+
+init-requires : tie.Need-init-requires
+init-requires c κs = search needs
+
+run-register-requires : tie.Need-run-register-requires
+run-register-requires c κs = search needs
+
+same-length : tie.Need-same-length
+same-length c = search needs
+
+returns : tie.Need-returns
+unfolding segmentSigns
+returns c = rw (← c .before .before .before .before .before .prbs-segment-init .ensures, ← c .before .before .before .before .init .ensures, ← c .before .before .before .before .before .before .before .pre .1) (c .before .before .run-register .ensures)
+
+pub segment-w-spec : {M : Type 1} → statement M
+segment-w-spec =
+    tie.close
+    (tie.spec prbs-segment-init-requires init-requires run-register-requires same-length returns)

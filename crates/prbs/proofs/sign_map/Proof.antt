@@ -1,0 +1,49 @@
+-- `prbs::sign_map` meets its contract: each return is the case of the definition that the tests on the way decide.
+-- Assumes nothing.
+use mathlib.Core.Path.{refl, sym, ap, _∙_}
+use borrow.Author.Tests.{eq-eqb, ne-eqb}
+use Rattle.prbs.proofs.Returns.{sign-bad-mode, sign-bad-length, sign-written}
+use borrow.Author.Needs.{needs}
+use Rattle.prbs.proofs.sign_map.Statement.{statement}
+use Rattle.prbs.proofs.sign_map.Tie as tie
+
+from-number-requires : tie.Need-from-number-requires
+from-number-requires c κs = search needs
+
+enum-known-m : tie.Need-enum-known-m
+enum-known-m c = search needs
+
+enum-told : tie.Need-enum-told
+enum-told c = search needs
+
+returns : tie.Need-returns
+returns c = sign-bad-mode _ _ (sym (c .before .before .from-number .ensures) ∙ c .enum-told .given .1)
+
+total-carriers-requires : tie.Need-total-carriers-requires
+total-carriers-requires c κs = search needs
+
+returns-2 : tie.Need-returns-2
+returns-2 c = sign-bad-length _ _ _ (sym (c .before .before .before .before .before .from-number .ensures) ∙ c .before .before .before .m .given .1) (λ e. c .if1 .taken (e ∙ sym (c .before .total-carriers .ensures)))
+
+band-w-requires : tie.Need-band-w-requires
+band-w-requires c κs = search needs
+
+same-length : tie.Need-same-length
+same-length c = search needs
+
+returns-3 : tie.Need-returns-3
+returns-3 c = sign-written _ _ _ _ (sym (c .before .before .before .before .before .before .before .before .before .from-number .ensures) ∙ c .before .before .before .before .before .before .before .m .given .1) (c .before .before .before .before .if1 .left ∙ c .before .before .before .before .before .total-carriers .ensures) (c .before .before .band-w .ensures)
+
+pub sign-map-spec : {M : Type 1} → statement M
+sign-map-spec =
+    tie.close
+    (tie.spec
+    from-number-requires
+    enum-known-m
+    enum-told
+    returns
+    total-carriers-requires
+    returns-2
+    band-w-requires
+    same-length
+    returns-3)

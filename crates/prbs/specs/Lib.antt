@@ -1,0 +1,3 @@
+pub mod Signs
+pub mod OneRegister
+pub mod SignMap

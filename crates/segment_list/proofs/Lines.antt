@@ -1,0 +1,37 @@
+-- Lines that are stored piece by piece and one behind another.
+-- Assumes nothing.
+use Prim.Native.Nat.{ℕ, _+_, _*_, _-_, _<_}
+use mathlib.Core.List.{List, [], _∷_, _++_, append-nil}
+use mathlib.Core.Path.{_≡_, _∙_}
+use native.Mathlib.Numerals.{add-one}
+use native.Mathlib.Omega.{arith}
+use lib.ListN.{length, getD, take}
+use lib.Seq.{take-suc}
+use Rattle.lists.specs.Lists.{joined, range}
+use Rattle.lists.specs.Fill.{joined-append}
+use Rattle.params.specs.declared.Mode.{Mode}
+use Rattle.params.specs.declared.SegmentKind.{SegmentKind}
+use Rattle.params.specs.Params.{carriersPerSegment, kindFrom}
+use Rattle.params.specs.Laws.{sized}
+use Rattle.ofdm.specs.Band.{segmentAt}
+use Rattle.ofdm.specs.Laws.{segment-ends}
+use Rattle.segment_list.specs.declared.KindCounts.{KindCounts}
+use Rattle.segment_list.specs.Counts.{kindCounts, countsLine}
+use Rattle.segment_list.specs.Question.{Answered, front, lineAt, line-parts}
+use Rattle.segment_list.specs.Put.{Put, then, put-as}
+
+pub take-more : (text : List ℕ) (i : ℕ) → i < length text → take (i + 1) text ≡ take i text ++ (getD text i 0 ∷ [])
+take-more text i h = rw (add-one, take-suc text i 0 h)
+
+pub joined-range : (f : ℕ → List ℕ) (n : ℕ) → joined f (range (n + 1)) ≡ joined f (range n) ++ f n
+joined-range f n = rw (add-one, joined-append f (range n) (n ∷ []), append-nil)
+
+-- a segment's first carrier has four digits at most
+pub carrier-few : (mode : Mode) (place c : ℕ) → place < 13 → c ≡ carriersPerSegment mode → place * c < 10000
+carrier-few mode place c h e = rw e (omega (arith, segment-ends mode place h, sized mode .band-high))
+
+-- the front and the counts make the line of a segment
+pub segment-put : {out mid end : List ℕ} {at a r : ℕ} {k : KindCounts} (mode : Mode) (s : List ℕ) (place seg c : ℕ) (kind : SegmentKind)
+    → Answered s → place < 13 → seg ≡ segmentAt place → c ≡ carriersPerSegment mode → kind ≡ kindFrom (getD s (4 + seg) 0 - 67) → k ≡ kindCounts mode kind
+    → Put out at (front place seg (getD s (4 + seg) 0) (place * c)) a mid → Put mid a (countsLine k) r end → Put out at (lineAt mode s place) r end
+segment-put mode s place seg c kind q h es ec ek e p t = put-as (line-parts mode s place q h ∙ rw (e, ek, es, ec)) (then p t)

@@ -1,0 +1,74 @@
+-- `segment_list::put_answer` meets its contract: the line's number refuses it, or its mode and kinds are listed.
+-- Assumes nothing.
+use mathlib.Core.Path.{sym, _∙_}
+use native.Mathlib.Omega.{arith}
+use Rattle.segment_list.specs.Text.{listLines}
+use Rattle.segment_list.specs.Question.{question-size, question-mode, not-refused}
+use Rattle.segment_list.specs.Put.{then, put-none, put-as}
+use Rattle.segment_list.proofs.Answers.{refused-answer, list-answer}
+use borrow.Author.Needs.{needs}
+use Rattle.segment_list.proofs.put_answer.Statement.{statement}
+use Rattle.segment_list.proofs.put_answer.Tie as tie
+
+line-code-requires : tie.Need-line-code-requires
+line-code-requires c κs = search needs
+
+put-refused-requires : tie.Need-put-refused-requires
+put-refused-requires c κs = search needs
+
+same-length : tie.Need-same-length
+same-length c = search needs
+
+returns : tie.Need-returns
+returns c = (put-as (refused-answer _ _ (c .before .before .before .before .before .line-code .ensures .0) (c .before .before .before .before .if1 .taken)) (c .before .before .put-refused .ensures .0), c .before .before .put-refused .ensures .1)
+
+shared-slice-read-from-number : tie.Need-shared-slice-read-from-number
+shared-slice-read-from-number c = omega (arith, question-size _ (not-refused (c .before .before .before .before .before .args .s .now) (sym (c .before .before .line-code .ensures .0) ∙ c .before .if1 .left) .question))
+
+sub-from-number : tie.Need-sub-from-number
+sub-from-number c = omega (arith, question-mode _ (not-refused (c .before .before .before .before .before .args .s .now) (sym (c .before .before .line-code .ensures .0) ∙ c .before .if1 .left) .question))
+
+from-number-requires : tie.Need-from-number-requires
+from-number-requires c κs = search needs
+
+enum-known-mode : tie.Need-enum-known-mode
+enum-known-mode c = search needs
+
+enum-told : tie.Need-enum-told
+enum-told c = search needs
+
+returns-2 : tie.Need-returns-2
+unfolding listLines
+returns-2 c = (put-as (list-answer (c .before .before .before .before .before .before .before .before .args .s .now) _ _ (c .before .before .before .before .before .line-code .ensures .0) (c .before .before .before .before .if1 .left) (sym (c .before .before .from-number .ensures) ∙ c .enum-told .given .1)) (put-none _ _), omega arith)
+
+put-segments-requires : tie.Need-put-segments-requires
+put-segments-requires c κs = (omega arith, not-refused (c .before .before .before .before .before .before .before .before .before .before .args .s .now) (sym (c .before .before .before .before .before .before .before .line-code .ensures .0) ∙ c .before .before .before .before .before .before .if1 .left))
+
+put-edge-requires : tie.Need-put-edge-requires
+put-edge-requires c κs = search needs
+
+same-length-2 : tie.Need-same-length-2
+same-length-2 c = search needs
+
+returns-3 : tie.Need-returns-3
+unfolding listLines
+returns-3 c = (put-as (list-answer (c .before .before .before .before .before .before .before .before .before .before .before .before .before .before .before .before .before .args .s .now) _ _ (c .before .before .before .before .before .before .before .before .before .before .before .before .before .before .line-code .ensures .0) (c .before .before .before .before .before .before .before .before .before .before .before .before .before .if1 .left) (sym (c .before .before .before .before .before .before .before .before .before .before .before .from-number .ensures) ∙ c .before .before .before .before .before .before .before .before .before .mode .given .1)) (then (c .before .before .before .before .before .before .put-segments .ensures .0) (c .before .before .put-edge .ensures .0)), omega (arith, c .before .before .before .before .before .before .put-segments .ensures .1, c .before .before .put-edge .ensures .1))
+
+pub put-answer-spec : {M : Type 1} → statement M
+put-answer-spec =
+    tie.close
+    (tie.spec
+    line-code-requires
+    put-refused-requires
+    same-length
+    returns
+    shared-slice-read-from-number
+    sub-from-number
+    from-number-requires
+    enum-known-mode
+    enum-told
+    returns-2
+    put-segments-requires
+    put-edge-requires
+    same-length-2
+    returns-3)

@@ -1,0 +1,51 @@
+-- `segment_list::put_edge` meets its contract: the three pieces are stored one behind the other.
+-- Assumes nothing.
+use native.Mathlib.Omega.{arith}
+use Rattle.params.specs.Laws.{sized}
+use Rattle.segment_list.specs.Text.{edgeLine}
+use Rattle.segment_list.specs.Put.{then, put-as}
+use borrow.Author.Needs.{needs}
+use Rattle.segment_list.proofs.put_edge.Statement.{statement}
+use Rattle.segment_list.proofs.put_edge.Tie as tie
+
+slice-aggregate-put-text : tie.Need-slice-aggregate-put-text
+slice-aggregate-put-text c = search needs
+
+put-text-requires : tie.Need-put-text-requires
+put-text-requires c κs = search needs
+
+total-carriers-requires : tie.Need-total-carriers-requires
+total-carriers-requires c κs = search needs
+
+sub-put-field : tie.Need-sub-put-field
+sub-put-field c = omega (arith, c .total-carriers .ensures, sized (c .before .before .before .before .before .before .before .before .args .mode) .band)
+
+put-field-requires : tie.Need-put-field-requires
+put-field-requires c κs = (omega (arith, c .before .before .before .before .put-text .ensures .next), omega (arith, c .total-carriers .ensures, sized (c .before .before .before .before .before .before .before .before .args .mode) .band-high))
+
+slice-aggregate-put-text-2 : tie.Need-slice-aggregate-put-text-2
+slice-aggregate-put-text-2 c = search needs
+
+put-text-requires-2 : tie.Need-put-text-requires-2
+put-text-requires-2 c κs = search needs
+
+same-length : tie.Need-same-length
+same-length c = search needs
+
+returns : tie.Need-returns
+unfolding edgeLine
+returns c = (put-as (rw (c .before .before .before .before .before .before .before .before .total-carriers .ensures)) (then (c .before .before .before .before .before .before .before .before .before .before .before .before .put-text .ensures) (then (c .before .before .before .before .before .before .before .put-field .ensures .0) (c .before .before .put-text2 .ensures))), omega (arith, c .before .before .before .before .before .before .before .before .before .before .before .before .put-text .ensures .next, c .before .before .before .before .before .before .before .put-field .ensures .1, c .before .before .put-text2 .ensures .next))
+
+pub put-edge-spec : {M : Type 1} → statement M
+put-edge-spec =
+    tie.close
+    (tie.spec
+    slice-aggregate-put-text
+    put-text-requires
+    total-carriers-requires
+    sub-put-field
+    put-field-requires
+    slice-aggregate-put-text-2
+    put-text-requires-2
+    same-length
+    returns)

@@ -1,0 +1,22 @@
+-- `segment_list::put_field` meets its contract: the digits and the comma are stored one behind the other.
+-- Assumes nothing.
+use native.Mathlib.Omega.{arith}
+use Rattle.segment_list.specs.Put.{then}
+use borrow.Author.Needs.{needs}
+use Rattle.segment_list.proofs.put_field.Statement.{statement}
+use Rattle.segment_list.proofs.put_field.Tie as tie
+
+put-decimal-requires : tie.Need-put-decimal-requires
+put-decimal-requires c κs = search needs
+
+put-byte-requires : tie.Need-put-byte-requires
+put-byte-requires c κs = search needs
+
+same-length : tie.Need-same-length
+same-length c = search needs
+
+returns : tie.Need-returns
+returns c = (then (c .before .before .before .before .before .before .put-decimal .ensures .0) (c .before .before .put-byte .ensures), (omega (arith, c .before .before .before .before .before .before .put-decimal .ensures, c .before .before .put-byte .ensures .next), omega (arith, c .before .before .before .before .before .before .put-decimal .ensures, c .before .before .put-byte .ensures .next)))
+
+pub put-field-spec : {M : Type 1} → statement M
+put-field-spec = tie.close (tie.spec put-decimal-requires put-byte-requires same-length returns)

@@ -1,0 +1,54 @@
+-- `segment_list::put_segments` meets its contract: the lines of the places passed are stored one behind another.
+-- Assumes nothing.
+use Prim.Native.Nat.{_+_, _-_, _*_, _≤_}
+use mathlib.Core.Path.{_≡_, refl, sym, ap}
+use native.Mathlib.Omega.{arith}
+use lib.ListN.{length}
+use Rattle.lists.specs.Lists.{joined, range}
+use Rattle.segment_list.specs.Question.{lineAt}
+use Rattle.segment_list.specs.Put.{Put, then, put-none, put-as}
+use Rattle.segment_list.proofs.Lines.{joined-range}
+use borrow.Author.Needs.{needs}
+use Rattle.segment_list.proofs.put_segments.Statement.{statement}
+use Rattle.segment_list.proofs.put_segments.Tie as tie
+
+abbrev Inv-loop : tie.InvT-loop
+Inv-loop out₀ at mode s to₀ place₀ out to place = (place ≤ 13) × (length out ≡ length out₀) × (to ≤ at + 36 * place) × Put out₀ at (joined (lineAt mode s) (range place)) to out
+
+abbrev μ-loop : tie.MeasureT-loop
+μ-loop out₀ at mode s to₀ place₀ out to place = 13 - place
+
+loop-holds : tie.Need-loop-holds Inv-loop μ-loop
+loop-holds c = (search needs, refl, omega arith, put-none _ _)
+
+put-segment-requires : tie.Need-put-segment-requires Inv-loop μ-loop
+put-segment-requires c κs = (omega arith, omega arith, c .before .before .before .before .before .pre .1)
+
+add-place : tie.Need-add-place Inv-loop μ-loop
+add-place c = omega arith
+
+loop-less : tie.Need-loop-less Inv-loop μ-loop
+loop-less c = omega arith
+
+loop-again : tie.Need-loop-again Inv-loop μ-loop
+loop-again c = (omega arith, omega arith, omega (arith, c .before .before .put-segment .ensures .1), put-as (joined-range (lineAt (c .before .before .before .before .before .before .before .before .args .mode) (c .before .before .before .before .before .before .before .before .args .s .now)) (c .before .before .before .before .before .loop .place)) (then (c .before .before .before .before .before .loop .inv .3) (c .before .before .put-segment .ensures .0)))
+
+same-length : tie.Need-same-length Inv-loop μ-loop
+same-length c = c .before .loop .inv .1
+
+returns : tie.Need-returns Inv-loop μ-loop
+returns c = let all : c .before .loop .place ≡ 13 = omega arith in (put-as (ap (λ p. joined (lineAt (c .before .before .before .before .args .mode) (c .before .before .before .before .args .s .now)) (range p)) (sym all)) (c .before .loop .inv .3), omega arith)
+
+pub put-segments-spec : {M : Type 1} → statement M
+put-segments-spec =
+    tie.close
+    (tie.spec
+    Inv-loop
+    μ-loop
+    loop-holds
+    put-segment-requires
+    add-place
+    loop-less
+    loop-again
+    same-length
+    returns)

@@ -1,0 +1,30 @@
+-- `segment_list::take_byte` meets its contract: a line feed has the line answered, any other byte is gathered.
+-- Assumes nothing.
+use native.Mathlib.Omega.{arith}
+use Rattle.segment_list.specs.Feed.{takes-feed, takes-byte}
+use borrow.Author.Needs.{needs}
+use Rattle.segment_list.proofs.take_byte.Statement.{statement}
+use Rattle.segment_list.proofs.take_byte.Tie as tie
+
+answer-line-requires : tie.Need-answer-line-requires
+answer-line-requires c κs = search needs
+
+new-requires : tie.Need-new-requires
+new-requires c κs = search needs
+
+same-length : tie.Need-same-length
+same-length c = search needs
+
+returns : tie.Need-returns
+returns c = (takes-feed _ (c .before .before .before .before .before .if1 .taken) (c .before .before .before .answer-line .ensures .0) (c .new .ensures), c .before .before .before .answer-line .ensures .1)
+
+push-requires : tie.Need-push-requires
+push-requires c κs = search needs
+
+returns-2 : tie.Need-returns-2
+returns-2 c = (takes-byte _ (c .before .if1 .left) (c .push .ensures), omega arith)
+
+pub take-byte-spec : {M : Type 1} → statement M
+take-byte-spec =
+    tie.close
+    (tie.spec answer-line-requires new-requires same-length returns push-requires returns-2)
