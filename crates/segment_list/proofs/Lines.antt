@@ -15,13 +15,11 @@ use Rattle.params.specs.Params.{carriersPerSegment, kindFrom}
 use Rattle.params.specs.Laws.{sized}
 use Rattle.ofdm.specs.Band.{segmentAt}
 use Rattle.ofdm.specs.Laws.{segment-ends}
-use Rattle.segment_list.specs.declared.KindCounts.{KindCounts}
-use Rattle.segment_list.specs.Counts.{kindCounts, countsLine}
+use Rattle.role_counts.specs.declared.KindCounts.{KindCounts}
+use Rattle.role_counts.specs.Counts.{kindCounts}
+use Rattle.segment_list.specs.Question.{countsLine}
 use Rattle.segment_list.specs.Question.{Answered, front, lineAt, line-parts}
-use Rattle.segment_list.specs.Put.{Put, then, put-as}
-
-pub take-more : (text : List ℕ) (i : ℕ) → i < length text → take (i + 1) text ≡ take i text ++ (getD text i 0 ∷ [])
-take-more text i h = rw (add-one, take-suc text i 0 h)
+use Rattle.text.specs.Put.{Put, then, put-as}
 
 pub joined-range : (f : ℕ → List ℕ) (n : ℕ) → joined f (range (n + 1)) ≡ joined f (range n) ++ f n
 joined-range f n = rw (add-one, joined-append f (range n) (n ∷ []), append-nil)

@@ -11,7 +11,7 @@ use Rattle.segment_list.specs.declared.Line.{Line}
 use Rattle.segment_list.specs.declared.Fed.{Fed}
 use Rattle.segment_list.specs.Text.{lineAnswer, printed, openAfter, lastAnswer, segmentsPrints}
 use Rattle.segment_list.specs.Gather.{Gathers}
-use Rattle.segment_list.specs.Put.{Put, then, put-none, put-as}
+use Rattle.text.specs.Put.{Put, then, put-none, put-as}
 use Rattle.segment_list.specs.Printed.{printed-pieces, open-pieces}
 
 -- whatever the line gathers before the bytes, line' gathers what is open after them

@@ -1,7 +1,5 @@
 pub mod Text
-pub mod Counts
 pub mod Question
 pub mod Gather
-pub mod Put
 pub mod Printed
 pub mod Feed

@@ -2,7 +2,7 @@
 -- Assumes nothing.
 use Prim.Native.Nat.{ℕ, suc, _+_, _*_, _-_, _≤_, _<_}
 use mathlib.Core.Bool.{Bool, true, false, cond, _&&_, _||_}
-use mathlib.Core.List.{List, _∷_, _++_, append-assoc}
+use mathlib.Core.List.{List, [], _∷_, _++_, append-assoc}
 use mathlib.Core.Path.{_≡_, refl, sym, ap, _∙_}
 use native.Mathlib.Omega.{arith}
 use borrow.Author.Tests.{ltb-true, leb-true, leb-false, eqb-true, le-leb, lt-ltb, le-ltb}
@@ -12,12 +12,15 @@ use lib.Seq.{getD-drop}
 use Rattle.lists.specs.Refusals.{unless}
 use Rattle.lists.specs.Tests.{allIn, allIn-at, both-left, both-right}
 use Rattle.params.specs.declared.Mode.{Mode}
+use Rattle.params.specs.declared.SegmentKind.{SegmentKind}
 use Rattle.params.specs.Params.{carriersPerSegment, kindFrom}
 use Rattle.ofdm.specs.Band.{segmentAt}
 use Rattle.ofdm.specs.Laws.{segment-below}
-use Rattle.frame.specs.Roles.{between}
-use Rattle.segment_list.specs.Text.{isDigit, isKindLetter, isQuestion, phaseAsked, kindsAsked, field, segmentLine, lineCode}
-use Rattle.segment_list.specs.Counts.{kindCounts, countsLine, counts-line}
+use Rattle.frame.specs.Roles.{segmentRoles, between}
+use Rattle.role_counts.specs.declared.KindCounts.{KindCounts}
+use Rattle.role_counts.specs.Counts.{kindCounts, segment-counted}
+use Rattle.text.specs.Decimal.{decimal, field}
+use Rattle.segment_list.specs.Text.{isDigit, isKindLetter, isQuestion, phaseAsked, kindsAsked, counts, segmentLine, lineCode}
 
 -- a question whose phase is one: what the list of its segments needs
 pub record Answered (s : List ℕ) : Type 0 where
@@ -31,6 +34,17 @@ lineAt mode s place = segmentLine mode (phaseAsked s) (kindsAsked s) place
 -- the front of a segment's line
 abbrev pub front : ℕ → ℕ → ℕ → ℕ → List ℕ
 front place seg letter carrier = field place ++ (field seg ++ (letter ∷ 44 ∷ field carrier))
+
+-- the text of the counts, and the line's end
+abbrev pub countsLine : KindCounts → List ℕ
+countsLine k = field (k .«data») ++ (field (k .sp) ++ (field (k .cp) ++ (field (k .tmcc) ++ (field (k .ac1) ++ (decimal (k .ac2) ++ (10 ∷ []))))))
+
+-- so the text of a segment's counts is that of its mode and kind
+pub counts-line : (mode : Mode) (kind : SegmentKind) (row phase : ℕ) → row < 13 → phase < 4
+    → counts (segmentRoles mode phase (record { row = row; kind = kind })) ≡ countsLine (kindCounts mode kind)
+counts-line mode kind row phase r p =
+    let c = segment-counted mode kind row phase r p in
+    rw (c .«data», c .sp, c .cp, c .tmcc, c .ac1, c .ac2)
 
 six : (a b c d e f : Bool) → (a && (b && (c && (d && (e && f))))) ≡ true → (a ≡ true) × ((b ≡ true) × ((d ≡ true) × (f ≡ true)))
 six a b c d e f h =

@@ -16,7 +16,9 @@ use Rattle.ofdm.specs.Band.{segmentAt}
 use Rattle.frame.specs.declared.AcKind.the-variants.{Ac1, Ac2}
 use Rattle.frame.specs.declared.CarrierRole.{CarrierRole}
 use Rattle.frame.specs.declared.CarrierRole.the-variants.{Data, Sp, Cp, Tmcc, Ac}
-use Rattle.frame.specs.Roles.{roleByte, segmentRoles, wideSegment}
+use Rattle.frame.specs.Roles.{segmentRoles, wideSegment}
+use Rattle.role_counts.specs.Counts.{countRole}
+use Rattle.text.specs.Decimal.{decimal, field}
 
 -- bytes: comma 44, digits from 48, C 67, D 68, E 69, line feed 10
 abbrev pub isDigit : ℕ → Bool
@@ -39,22 +41,6 @@ phaseAsked s = getD s 2 0 - 48
 
 abbrev pub kindsAsked : List ℕ → List ℕ
 kindsAsked s = map (λ b. b - 67) (drop 4 s)
-
--- a number below 10,000 in decimal digits
-unfoldable pub decimal : ℕ → List ℕ
-decimal n =
-    cond (ltb n 10) ((48 + n) ∷ [])
-    (cond (ltb n 100) ((48 + n / 10) ∷ (48 + n % 10) ∷ [])
-    (cond (ltb n 1000) ((48 + n / 100) ∷ (48 + n / 10 % 10) ∷ (48 + n % 10) ∷ [])
-    ((48 + n / 1000) ∷ (48 + n / 100 % 10) ∷ (48 + n / 10 % 10) ∷ (48 + n % 10) ∷ [])))
-
--- a number and a comma
-abbrev pub field : ℕ → List ℕ
-field n = decimal n ++ (44 ∷ [])
-
--- how many carriers of a segment have a role
-abbrev pub countRole : CarrierRole → List ℕ → ℕ
-countRole r roles = length (select (λ b. eqb b (roleByte r)) roles)
 
 -- the counts of data, SP, CP, TMCC, AC1 and AC2, and the line's end
 abbrev pub counts : List ℕ → List ℕ

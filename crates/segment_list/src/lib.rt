@@ -1,78 +1,34 @@
 // The segment list of document 01: a question of 17 bytes, `mode,phase,kinds`, is answered by a
 // line for each of the thirteen segments, by place, and one for the edge; any other line is refused.
 //
-// Text is stored in a buffer that the caller lends: each function takes the index to start at and
-// gives the index behind what it stored. Input comes in pieces of any length, and a line of any
-// length is held in 17 bytes and a count.
+// Input comes in pieces of any length, and a line of any length is held in 17 bytes and a count.
 ghost use mathlib.Core.List.{List, [], _∷_, _++_};
 ghost use mathlib.Core.Path.{_≡_};
-ghost use Prim.Native.Nat.{ℕ, _<_, _≤_, _+_, _/_};
+ghost use Prim.Native.Nat.{ℕ, _<_, _≤_, _+_};
 ghost use lib.Dec.{leb};
 ghost use lib.ListN.{length, drop};
 ghost use Rattle.lists.specs.Lists.{joined, range};
 ghost use Rattle.lists.specs.Tests.{allIn};
 ghost use Rattle.frame.specs.Roles.{between};
-ghost use Rattle.segment_list.specs.Text.{isKindLetter, isQuestion, decimal, field, edgeLine, refusedLine, lineCode, lineAnswer, lastAnswer};
-ghost use Rattle.segment_list.specs.Counts.{kindCounts, countsLine, Few};
-ghost use Rattle.segment_list.specs.Counts.{units as Counts·units};
-ghost use Rattle.segment_list.specs.Question.{Answered, front, lineAt};
+ghost use Rattle.segment_list.specs.Text.{isKindLetter, isQuestion, edgeLine, refusedLine, lineCode, lineAnswer, lastAnswer};
+ghost use Rattle.role_counts.specs.Counts.{Few};
+ghost use Rattle.segment_list.specs.Question.{Answered, front, countsLine, lineAt};
 ghost use Rattle.segment_list.specs.Gather.{Gathers};
-ghost use Rattle.segment_list.specs.Put.{Put};
+ghost use Rattle.text.specs.Put.{Put};
 ghost use Rattle.segment_list.specs.Feed.{Takes, Feeds};
 use ofdm::BandPlace;
 use params::Mode;
 use params::ModeNumber;
 use params::SegmentKind;
+use role_counts::KindCounts;
+use role_counts::kind_counts;
+use text::put_byte;
+use text::put_decimal;
+use text::put_field;
+use text::put_text;
 
 // Room for the answer to any line.
 pub const ANSWER: usize = 512;
-
-// How many carriers of a segment have each role.
-pub struct KindCounts {
-    pub data: usize,
-    pub sp: usize,
-    pub cp: usize,
-    pub tmcc: usize,
-    pub ac1: usize,
-    pub ac2: usize,
-}
-
-// Mode 1's segment is the unit of carriers.
-fn units(mode: Mode) -> usize
-    ensures { λ r. ⌜ r ≡ Counts·units mode ⌝ }
-    ensures { λ r. ⌜ (1 ≤ r) × (r ≤ 4) ⌝ }
-{
-    match mode {
-        Mode::M1 => 1,
-        Mode::M2 => 2,
-        Mode::M3 => 4,
-    }
-}
-
-// The counts of a segment: neither its number nor the phase changes them.
-pub fn kind_counts(mode: Mode, kind: SegmentKind) -> KindCounts
-    ensures { λ r. ⌜ r ≡ kindCounts mode kind ⌝ }
-{
-    let u = units(mode);
-    match kind {
-        SegmentKind::Coherent => KindCounts {
-            data: 96 * u,
-            sp: 9 * u,
-            cp: 0,
-            tmcc: u,
-            ac1: 2 * u,
-            ac2: 0,
-        },
-        SegmentKind::Differential => KindCounts {
-            data: 96 * u,
-            sp: 0,
-            cp: 1,
-            tmcc: 5 * u,
-            ac1: 2 * u,
-            ac2: 5 * u - 1,
-        },
-    }
-}
 
 // A line that is open: its first 17 bytes, and how many it has, where 18 stands for more.
 pub struct Line {
@@ -106,57 +62,6 @@ impl Line {
     }
 }
 
-// One byte of text.
-fn put_byte(out: &mut [u8], at: usize, b: u8) -> usize
-    requires { ⌜ at < length (now out) ⌝ }
-    ensures { λ r. ⌜ Put (now (out .entry)) at (b ∷ []) r (now (out .exit)) ⌝ }
-{
-    out[at] = b;
-    at + 1
-}
-
-fn put_digit(out: &mut [u8], at: usize, d: usize) -> usize
-    requires { ⌜ (at < length (now out)) × (d < 10) ⌝ }
-    ensures { λ r. ⌜ Put (now (out .entry)) at ((48 + d) ∷ []) r (now (out .exit)) ⌝ }
-{
-    put_byte(out, at, (48 + d) as u8)
-}
-
-// A number in decimal digits: four at most, and at most 1 + n / 10. A line's room is counted from
-// these two bounds.
-fn put_decimal(out: &mut [u8], at: usize, n: usize) -> usize
-    requires { ⌜ (at + 4 ≤ length (now out)) × (n < 10000) ⌝ }
-    ensures { λ r. ⌜ Put (now (out .entry)) at (decimal n) r (now (out .exit)) ⌝ }
-    ensures { λ r. ⌜ (r ≤ at + 4) × (r ≤ at + 1 + n / 10) ⌝ }
-{
-    if n < 10 {
-        return put_digit(out, at, n);
-    }
-    if n < 100 {
-        let tens = put_digit(out, at, n / 10);
-        return put_digit(out, tens, n % 10);
-    }
-    if n < 1000 {
-        let hundreds = put_digit(out, at, n / 100);
-        let tens = put_digit(out, hundreds, n / 10 % 10);
-        return put_digit(out, tens, n % 10);
-    }
-    let thousands = put_digit(out, at, n / 1000);
-    let hundreds = put_digit(out, thousands, n / 100 % 10);
-    let tens = put_digit(out, hundreds, n / 10 % 10);
-    put_digit(out, tens, n % 10)
-}
-
-// A number and a comma.
-fn put_field(out: &mut [u8], at: usize, n: usize) -> usize
-    requires { ⌜ (at + 5 ≤ length (now out)) × (n < 10000) ⌝ }
-    ensures { λ r. ⌜ Put (now (out .entry)) at (field n) r (now (out .exit)) ⌝ }
-    ensures { λ r. ⌜ (r ≤ at + 5) × (r ≤ at + 2 + n / 10) ⌝ }
-{
-    let end = put_decimal(out, at, n);
-    put_byte(out, end, b',')
-}
-
 // The six counts of a segment, and the line's end.
 fn put_counts(out: &mut [u8], at: usize, k: KindCounts) -> usize
     requires { ⌜ (at + 23 ≤ length (now out)) × Few k ⌝ }
@@ -170,20 +75,6 @@ fn put_counts(out: &mut [u8], at: usize, k: KindCounts) -> usize
     let ac2 = put_field(out, ac1, k.ac1);
     let end = put_decimal(out, ac2, k.ac2);
     put_byte(out, end, b'\n')
-}
-
-// Text that is stored as it is.
-fn put_text(out: &mut [u8], at: usize, text: &[u8]) -> usize
-    requires { ⌜ at + length (now text) ≤ length (now out) ⌝ }
-    ensures { λ r. ⌜ Put (now (out .entry)) at (now (text .entry)) r (now (out .exit)) ⌝ }
-{
-    let mut to = at;
-    let mut i: usize = 0;
-    while i < text.len() {
-        to = put_byte(out, to, text[i]);
-        i += 1;
-    }
-    to
 }
 
 // The front of a segment's line: place, segment, kind, first carrier.

@@ -4,7 +4,7 @@ use mathlib.Core.Path.{_≡_, ap}
 use native.Mathlib.Omega.{arith}
 use lib.ListN.{length}
 use Rattle.segment_list.specs.Text.{lineAnswer}
-use Rattle.segment_list.specs.Put.{put-as}
+use Rattle.text.specs.Put.{put-as}
 use Rattle.segment_list.proofs.Answers.{other-length}
 use Rattle.segment_list.proofs.Gathered.{gathered-whole}
 use borrow.Author.Needs.{needs}

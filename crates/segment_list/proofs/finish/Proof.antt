@@ -1,7 +1,7 @@
 -- `segment_list::finish` meets its contract: an open line of no bytes is no line.
 -- Assumes nothing.
 use native.Mathlib.Omega.{arith}
-use Rattle.segment_list.specs.Put.{put-none, put-as}
+use Rattle.text.specs.Put.{put-none, put-as}
 use Rattle.segment_list.proofs.Answers.{last-none, last-some}
 use borrow.Author.Needs.{needs}
 use Rattle.segment_list.proofs.finish.Statement.{statement}

@@ -4,7 +4,7 @@ use mathlib.Core.Path.{sym, _∙_}
 use native.Mathlib.Omega.{arith}
 use Rattle.segment_list.specs.Text.{listLines}
 use Rattle.segment_list.specs.Question.{question-size, question-mode, not-refused}
-use Rattle.segment_list.specs.Put.{then, put-none, put-as}
+use Rattle.text.specs.Put.{then, put-none, put-as}
 use Rattle.segment_list.proofs.Answers.{refused-answer, list-answer}
 use borrow.Author.Needs.{needs}
 use Rattle.segment_list.proofs.put_answer.Statement.{statement}

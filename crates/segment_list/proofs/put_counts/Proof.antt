@@ -1,7 +1,7 @@
 -- `segment_list::put_counts` meets its contract: the six numbers and the line's end are stored one behind the other.
 -- Assumes nothing.
 use native.Mathlib.Omega.{arith}
-use Rattle.segment_list.specs.Put.{then}
+use Rattle.text.specs.Put.{then}
 use borrow.Author.Needs.{needs}
 use Rattle.segment_list.proofs.put_counts.Statement.{statement}
 use Rattle.segment_list.proofs.put_counts.Tie as tie

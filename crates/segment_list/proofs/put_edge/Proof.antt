@@ -3,7 +3,7 @@
 use native.Mathlib.Omega.{arith}
 use Rattle.params.specs.Laws.{sized}
 use Rattle.segment_list.specs.Text.{edgeLine}
-use Rattle.segment_list.specs.Put.{then, put-as}
+use Rattle.text.specs.Put.{then, put-as}
 use borrow.Author.Needs.{needs}
 use Rattle.segment_list.proofs.put_edge.Statement.{statement}
 use Rattle.segment_list.proofs.put_edge.Tie as tie

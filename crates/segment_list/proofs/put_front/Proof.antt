@@ -1,7 +1,7 @@
 -- `segment_list::put_front` meets its contract: the four pieces are stored one behind the other.
 -- Assumes nothing.
 use native.Mathlib.Omega.{arith}
-use Rattle.segment_list.specs.Put.{then}
+use Rattle.text.specs.Put.{then}
 use borrow.Author.Needs.{needs}
 use Rattle.segment_list.proofs.put_front.Statement.{statement}
 use Rattle.segment_list.proofs.put_front.Tie as tie

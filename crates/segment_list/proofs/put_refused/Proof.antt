@@ -2,7 +2,7 @@
 -- Assumes nothing.
 use native.Mathlib.Omega.{arith}
 use Rattle.segment_list.specs.Text.{refusedLine}
-use Rattle.segment_list.specs.Put.{then}
+use Rattle.text.specs.Put.{then}
 use borrow.Author.Needs.{needs}
 use Rattle.segment_list.proofs.put_refused.Statement.{statement}
 use Rattle.segment_list.proofs.put_refused.Tie as tie

@@ -1,7 +1,7 @@
 -- `segment_list::put_segment` meets its contract: the letter decides the kind, and the kind's counts are the segment's.
 -- Assumes nothing.
 use native.Mathlib.Omega.{arith}
-use Rattle.segment_list.specs.Counts.{few}
+use Rattle.role_counts.specs.Counts.{few}
 use Rattle.segment_list.specs.Question.{question-size, question-letter}
 use Rattle.segment_list.proofs.Lines.{carrier-few, segment-put}
 use borrow.Author.Needs.{needs}

@@ -6,7 +6,7 @@ use native.Mathlib.Omega.{arith}
 use lib.ListN.{length}
 use Rattle.lists.specs.Lists.{joined, range}
 use Rattle.segment_list.specs.Question.{lineAt}
-use Rattle.segment_list.specs.Put.{Put, then, put-none, put-as}
+use Rattle.text.specs.Put.{Put, then, put-none, put-as}
 use Rattle.segment_list.proofs.Lines.{joined-range}
 use borrow.Author.Needs.{needs}
 use Rattle.segment_list.proofs.put_segments.Statement.{statement}

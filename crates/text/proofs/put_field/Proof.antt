@@ -1,10 +1,10 @@
--- `segment_list::put_field` meets its contract: the digits and the comma are stored one behind the other.
+-- `text::put_field` meets its contract: the digits and the comma are stored one behind the other.
 -- Assumes nothing.
 use native.Mathlib.Omega.{arith}
-use Rattle.segment_list.specs.Put.{then}
+use Rattle.text.specs.Put.{then}
 use borrow.Author.Needs.{needs}
-use Rattle.segment_list.proofs.put_field.Statement.{statement}
-use Rattle.segment_list.proofs.put_field.Tie as tie
+use Rattle.text.proofs.put_field.Statement.{statement}
+use Rattle.text.proofs.put_field.Tie as tie
 
 put-decimal-requires : tie.Need-put-decimal-requires
 put-decimal-requires c κs = search needs

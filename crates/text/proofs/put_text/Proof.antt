@@ -1,15 +1,15 @@
--- `segment_list::put_text` meets its contract: what is stored is the front of the text, a byte longer each turn.
+-- `text::put_text` meets its contract: what is stored is the front of the text, a byte longer each turn.
 -- Assumes nothing.
 use Prim.Native.Nat.{_+_, _-_, _≤_}
 use mathlib.Core.Path.{_≡_, refl, sym}
 use native.Mathlib.Omega.{arith}
 use lib.ListN.{length, take}
 use lib.Seq.{take-all}
-use Rattle.segment_list.specs.Put.{Put, then, put-none, put-as}
-use Rattle.segment_list.proofs.Lines.{take-more}
+use Rattle.text.specs.Put.{Put, then, put-none, put-as}
+use Rattle.text.proofs.Numbered.{take-more}
 use borrow.Author.Needs.{needs}
-use Rattle.segment_list.proofs.put_text.Statement.{statement}
-use Rattle.segment_list.proofs.put_text.Tie as tie
+use Rattle.text.proofs.put_text.Statement.{statement}
+use Rattle.text.proofs.put_text.Tie as tie
 
 abbrev Inv-loop : tie.InvT-loop
 Inv-loop out₀ at text to₀ i₀ out to i = (i ≤ length text) × (length out ≡ length out₀) × (to ≡ at + i) × Put out₀ at (take i text) to out

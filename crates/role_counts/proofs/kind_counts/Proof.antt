@@ -1,9 +1,9 @@
--- `segment_list::kind_counts` meets its contract: each kind has its row of constants, in units of the mode.
+-- `role_counts::kind_counts` meets its contract: each kind has its row of constants, in units of the mode.
 -- Assumes nothing.
 use native.Mathlib.Omega.{arith}
 use borrow.Author.Needs.{needs}
-use Rattle.segment_list.proofs.kind_counts.Statement.{statement}
-use Rattle.segment_list.proofs.kind_counts.Tie as tie
+use Rattle.role_counts.proofs.kind_counts.Statement.{statement}
+use Rattle.role_counts.proofs.kind_counts.Tie as tie
 
 units-requires : tie.Need-units-requires
 units-requires c κs = search needs

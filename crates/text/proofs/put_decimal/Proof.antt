@@ -1,14 +1,14 @@
--- `segment_list::put_decimal` meets its contract: the digits are stored one after the other, from the highest.
+-- `text::put_decimal` meets its contract: the digits are stored one after the other, from the highest.
 -- Assumes nothing.
 use native.Mathlib.Omega.{arith}
 use borrow.Author.Tests.{lt-ltb, le-ltb}
 use lib.Dec.{lit≤}
-use Rattle.segment_list.specs.Text.{decimal}
-use Rattle.segment_list.specs.Put.{then}
-use Rattle.segment_list.proofs.Numbered.{numbered}
+use Rattle.text.specs.Decimal.{decimal}
+use Rattle.text.specs.Put.{then}
+use Rattle.text.proofs.Numbered.{numbered}
 use borrow.Author.Needs.{needs}
-use Rattle.segment_list.proofs.put_decimal.Statement.{statement}
-use Rattle.segment_list.proofs.put_decimal.Tie as tie
+use Rattle.text.proofs.put_decimal.Statement.{statement}
+use Rattle.text.proofs.put_decimal.Tie as tie
 
 put-digit-requires : tie.Need-put-digit-requires
 put-digit-requires c κs = search needs

@@ -22,8 +22,11 @@ use Rattle.frame.specs.declared.AcKind.the-variants.{Ac1, Ac2}
 use Rattle.frame.specs.declared.CarrierRole.{CarrierRole}
 use Rattle.frame.specs.declared.CarrierRole.the-variants.{Data, Sp, Cp, Tmcc, Ac, EdgeCp}
 use Rattle.frame.specs.Roles.{roleByte, placeRole, segmentRoles}
-use Rattle.segment_list.specs.declared.KindCounts.{KindCounts}
-use Rattle.segment_list.specs.Text.{countRole, field, decimal, counts}
+use Rattle.role_counts.specs.declared.KindCounts.{KindCounts}
+
+-- how many carriers of a segment have a role
+abbrev pub countRole : CarrierRole → List ℕ → ℕ
+countRole r roles = length (select (λ b. eqb b (roleByte r)) roles)
 
 -- mode 1's segment is the unit of carriers
 abbrev pub units : Mode → ℕ
@@ -34,10 +37,6 @@ units M3 = 4
 abbrev pub kindCounts : Mode → SegmentKind → KindCounts
 kindCounts mode Coherent = record { «data» = 96 * units mode; sp = 9 * units mode; cp = 0; tmcc = units mode; ac1 = 2 * units mode; ac2 = 0 }
 kindCounts mode Differential = record { «data» = 96 * units mode; sp = 0; cp = 1; tmcc = 5 * units mode; ac1 = 2 * units mode; ac2 = 5 * units mode - 1 }
-
--- the text of the counts, and the line's end
-abbrev pub countsLine : KindCounts → List ℕ
-countsLine k = field (k .«data») ++ (field (k .sp) ++ (field (k .cp) ++ (field (k .tmcc) ++ (field (k .ac1) ++ (decimal (k .ac2) ++ (10 ∷ []))))))
 
 -- the largest counts, in mode 3
 pub record Few (k : KindCounts) : Type 0 where
@@ -198,10 +197,3 @@ unfolding segmentRoles placeRole
 segment-counted mode kind row phase r p =
     told (roleIn kind phase (tmccOf mode kind row) (ac1Of mode kind row) (ac2Of mode kind row)) (carriersPerSegment mode) (kindCounts mode kind)
     (omega (arith, sized mode .carriers-high)) (few mode kind) (eqb-true _ _ (row-tested mode kind row phase r p))
-
--- so the text of a segment's counts is that of its mode and kind
-pub counts-line : (mode : Mode) (kind : SegmentKind) (row phase : ℕ) → row < 13 → phase < 4
-    → counts (segmentRoles mode phase (record { row = row; kind = kind })) ≡ countsLine (kindCounts mode kind)
-counts-line mode kind row phase r p =
-    let c = segment-counted mode kind row phase r p in
-    rw (c .«data», c .sp, c .cp, c .tmcc, c .ac1, c .ac2)
