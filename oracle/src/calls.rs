@@ -93,35 +93,7 @@ impl Outcome {
     }
 }
 
-/// The number of a refusal, 0 for an answer.
-fn refusal<T>(answer: Answer<T>) -> u8 {
-    answer.err().unwrap_or(0)
-}
-
 impl Call {
-    /// The number of the oracle's refusal, 0 where it accepts the call.
-    pub fn code(&self) -> u8 {
-        match self {
-            &Call::CarrierBin { mode, k } => refusal(answers::carrier_bin(mode, k)),
-            &Call::SignMap { mode, len } => refusal(answers::sign_map(mode, len)),
-            Call::RoleMap {
-                mode,
-                phase,
-                kinds,
-                len,
-            } => refusal(answers::role_map(*mode, *phase, kinds, *len)),
-            Call::DataList {
-                mode,
-                phase,
-                kinds,
-                len,
-            } => refusal(answers::data_list(*mode, *phase, kinds, *len)),
-            Call::ContinualList { mode, kinds, len } => {
-                refusal(answers::continual_list(*mode, kinds, *len))
-            }
-        }
-    }
-
     /// Makes the call to the port and holds it against the oracle.
     pub fn run(&self, salt: u64) -> Outcome {
         match self {

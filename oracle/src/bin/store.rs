@@ -2,7 +2,6 @@
 
 use oracle::answers;
 use oracle::args::Args;
-use oracle::calls::{self, Call, Operation};
 use oracle::codes::{KINDS, MODES, PHASES, kind_bytes, kinds_of_choice};
 use oracle::isdb::frame::FrameLayout;
 use oracle::isdb::ofdm::carrier_bin;
@@ -18,7 +17,6 @@ const USAGE: &str = "\
 store: write a sample of the oracle's answers
 
   store [--seed N] FILE       write the binary sample of layouts to FILE
-  store --refusals FILE       write refused and accepted calls, with their codes, to FILE
   store --tables FILE         write the tables of the standard to FILE
   store --lines N [--seed N]  print N random questions for segments; `all` prints every one
   store --answers             print the answers to the questions on standard input
@@ -29,7 +27,6 @@ The seed is 1 unless it is given. README.md describes the binary files.";
 /// What to write.
 enum Task {
     Sample(String),
-    Refusals(String),
     Tables(String),
     Lines(u64),
     AllLines,
@@ -45,7 +42,6 @@ fn task() -> (Task, u64) {
                 seed = args.number("--seed");
                 continue;
             }
-            "--refusals" => Task::Refusals(args.value("--refusals")),
             "--tables" => Task::Tables(args.value("--tables")),
             "--answers" => Task::Answers,
             "--lines" => lines_task(&mut args),
@@ -112,62 +108,6 @@ fn sample(seed: u64) -> Vec<u8> {
         }
     }
     out
-}
-
-/// Whether a call at a boundary is kept: of the phases 0 and 3 and the bad ones, and of a bad byte
-/// among thirteen kinds the first and the last place. The others would show the same again.
-fn is_kept(call: &Call) -> bool {
-    let kept_phase = |phase: u8| ![1, 2].contains(&phase);
-    let kept_kinds =
-        |kinds: &[u8]| kinds.len() != SEGMENTS || kinds[1..SEGMENTS - 1].iter().all(|&k| k <= 1);
-    match call {
-        Call::CarrierBin { .. } | Call::SignMap { .. } => true,
-        Call::RoleMap { phase, kinds, .. } | Call::DataList { phase, kinds, .. } => {
-            kept_phase(*phase) && kept_kinds(kinds)
-        }
-        Call::ContinualList { kinds, .. } => kept_kinds(kinds),
-    }
-}
-
-/// The calls of the stored refusals.
-fn refusal_calls() -> Vec<Call> {
-    let boundary = Operation::ALL.into_iter().flat_map(calls::boundary);
-    boundary.filter(is_kept).collect()
-}
-
-/// One call: operation, mode, phase, kinds with their count, the carrier or the output's length,
-/// and the code.
-fn refusal_record(call: &Call) -> Vec<u8> {
-    let (operation, mode, phase, kinds, len) = match call {
-        &Call::CarrierBin { mode, .. } => (0, mode, 0, &[][..], 0),
-        Call::RoleMap {
-            mode,
-            phase,
-            kinds,
-            len,
-        } => (1, *mode, *phase, kinds.as_slice(), *len),
-        &Call::SignMap { mode, len } => (2, mode, 0, &[][..], len),
-        Call::DataList {
-            mode,
-            phase,
-            kinds,
-            len,
-        } => (3, *mode, *phase, kinds.as_slice(), *len),
-        Call::ContinualList { mode, kinds, len } => (4, *mode, 0, kinds.as_slice(), *len),
-    };
-    let count = u8::try_from(kinds.len()).expect("a call has few kinds");
-    let mut out = vec![operation, mode, phase, count];
-    out.extend(kinds);
-    match call {
-        Call::CarrierBin { k, .. } => out.extend((*k as u64).to_le_bytes()),
-        _ => push_u16(&mut out, [len]),
-    }
-    out.push(call.code());
-    out
-}
-
-fn refusals() -> Vec<u8> {
-    refusal_calls().iter().flat_map(refusal_record).collect()
 }
 
 /// Appends the rows of a carrier table, each after the count of its entries.
@@ -238,7 +178,6 @@ fn main() -> ExitCode {
     let mut rng = Rng::new(seed);
     let done = match task {
         Task::Sample(path) => fs::write(path, sample(seed)),
-        Task::Refusals(path) => fs::write(path, refusals()),
         Task::Tables(path) => fs::write(path, tables()),
         Task::Lines(count) => print_lines((0..count).map(|_| random_question(&mut rng))),
         Task::AllLines => print_lines(every_question()),
@@ -264,30 +203,6 @@ mod tests {
         assert_eq!(sample[..15], [1, 0, 0, 0, 0, 0, 0, 0, 0, 0, 0, 0, 0, 0, 0]);
         // Carrier 648 is SP, 683 AC1, 697 TMCC, and the last one is the edge.
         assert_eq!([648, 683, 697, 1404].map(|k| sample[15 + k]), [1, 4, 3, 6]);
-    }
-
-    #[test]
-    fn refusals_show_every_code_of_every_operation() {
-        let calls = refusal_calls();
-        assert!((1000..5000).contains(&calls.len()));
-        let mut seen: Vec<(u8, u8)> = calls
-            .iter()
-            .map(|call| (refusal_record(call)[0], call.code()))
-            .collect();
-        seen.sort_unstable();
-        seen.dedup();
-        let codes: [&[u8]; 5] = [
-            &[0, 1, 4],
-            &[0, 1, 2, 3, 7],
-            &[0, 1, 7],
-            &[0, 1, 2, 3, 7],
-            &[0, 1, 2, 7],
-        ];
-        let wanted: Vec<(u8, u8)> = (0..)
-            .zip(codes)
-            .flat_map(|(operation, codes)| codes.iter().map(move |&code| (operation, code)))
-            .collect();
-        assert_eq!(seen, wanted);
     }
 
     #[test]
