@@ -13,6 +13,17 @@ use frame::FrameLayout;
 use ofdm::Segment;
 use params::Mode;
 
+// Role bytes, as `frame::CarrierRole::byte` has them.
+const DATA: u8 = 0;
+
+const CP: u8 = 2;
+
+const TMCC: u8 = 3;
+
+const AC1: u8 = 4;
+
+const AC2: u8 = 5;
+
 // Whether a role byte lies from low to high.
 fn is_between(low: u8, high: u8, role: u8) -> bool
     ensures { λ r. ⌜ r ≡ between low high role ⌝ }
@@ -72,7 +83,7 @@ fn collect_data(mode: Mode, roles: &[u8], out: &mut [u32])
         let place = ofdm::segment_position(Segment(seg));
         let from = place.0 * c;
         let to = from + c;
-        at = collect(&roles[from..to], 0, 0, from, out, at);
+        at = collect(&roles[from..to], DATA, DATA, from, out, at);
         seg += 1;
     }
 }
@@ -88,13 +99,13 @@ fn collect_continual(roles: &[u8], out: &mut [u32]) -> ContinualList
     requires { ⌜ (0 < length (now roles)) × (length (now roles) ≤ 5617) ⌝ }
     ensures { λ r. ⌜ Continual (now (roles .entry)) (now (out .entry)) r (now (out .exit)) ⌝ }
 {
-    let n = count(roles, 3, 3) + count(roles, 4, 5) + count(roles, 2, 2) + 1;
+    let n = count(roles, TMCC, TMCC) + count(roles, AC1, AC2) + count(roles, CP, CP) + 1;
     if out.len() < n {
         return ContinualList::Refused(7);
     }
-    let tmcc = collect(roles, 3, 3, 0, out, 0);
-    let ac = collect(roles, 4, 5, 0, out, tmcc);
-    let cp = collect(roles, 2, 2, 0, out, ac);
+    let tmcc = collect(roles, TMCC, TMCC, 0, out, 0);
+    let ac = collect(roles, AC1, AC2, 0, out, tmcc);
+    let cp = collect(roles, CP, CP, 0, out, ac);
     out[cp] = (roles.len() - 1) as u32;
     ContinualList::Count(n)
 }
