@@ -1,0 +1,5 @@
+pub mod Halving
+pub mod Table
+pub mod Finished
+pub mod Cases
+pub mod Narrowing

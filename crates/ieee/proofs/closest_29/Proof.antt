@@ -1,0 +1,20 @@
+-- `ieee::closest_29` meets its contract. Assumes nothing.
+use mathlib.Core.Path.{sym, _∙_}
+use Rattle.ieee.proofs.Narrowing.{closest-29}
+use borrow.Author.Needs.{needs}
+use Rattle.ieee.proofs.closest_29.Statement.{statement}
+use Rattle.ieee.proofs.closest_29.Tie as tie
+use Rattle.ieee.proofs.closest_29.Reads as reads
+use Rattle.ieee.proofs.closest_29.Lts as lts
+
+add-result : tie.Need-add-result
+add-result c = search needs
+
+add-result-2 : tie.Need-add-result-2
+add-result-2 c = search needs
+
+returns : tie.Need-returns
+returns c = closest-29 (c .args .m)
+
+pub closest-29-spec : {M : Type 1} → statement M
+closest-29-spec = tie.close (tie.spec add-result add-result-2 returns)

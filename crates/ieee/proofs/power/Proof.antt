@@ -1,0 +1,19 @@
+-- `ieee::power` meets its contract. Assumes nothing.
+use mathlib.Core.Path.{ap, _∙_}
+use Prim.Native.Nat.{ℕ, _%_}
+use native.Mathlib.Nat.{one-mul, mod-eq-of-lt}
+use lib.Pow.{pow-lt}
+use borrow.Author.Needs.{needs}
+use Rattle.ieee.proofs.power.Statement.{statement}
+use Rattle.ieee.proofs.power.Tie as tie
+use Rattle.ieee.proofs.power.Reads as reads
+use Rattle.ieee.proofs.power.Lts as lts
+
+shl-result : tie.Need-shl-result
+shl-result c = search needs
+
+returns : tie.Need-returns
+returns c = ap (λ (x : ℕ). x % 18446744073709551616) (one-mul _) ∙ mod-eq-of-lt (pow-lt (c .pre))
+
+pub power-spec : {M : Type 1} → statement M
+power-spec = tie.close (tie.spec shl-result returns)

@@ -1,0 +1,13 @@
+pub mod Root
+pub mod Narrow
+pub mod Inner
+pub mod Signs
+pub mod Zeros
+pub mod WholeRoot
+pub mod RootUnits
+pub mod RootNear
+pub mod RootBest
+pub mod RootGain
+pub mod Nearest
+pub mod Patterns
+pub mod Worked

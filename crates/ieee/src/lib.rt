@@ -1,0 +1,222 @@
+// What IEEE 754 arithmetic needs beyond Rattle's operators: the nearest root of an f64 and an f64
+// narrowed to the nearest f32, both for every bit pattern. specs/ defines them, and has the laws
+// of floats that signal processing leans on: signs and zeros, order, and gain by a power of two.
+mod seeds;
+
+ghost use mathlib.Core.Path.{_≡_};
+ghost use Prim.Native.Nat.{_+_, _*_, _^_, _≤_, _<_};
+ghost use lib.Ieee.{binary64, ofBits};
+ghost use lib.Ieee.Nearest as Nearest;
+ghost use Rattle.ieee.specs.Root.{rootOf};
+ghost use Rattle.ieee.specs.Narrow.{narrowOf};
+ghost use Rattle.ieee.specs.Inner.{Ready, Refined, Rooted, Lifted, RootBits, Narrowed};
+
+// A whole root and what its square leaves of the number: s * s + r, with r at most 2 * s.
+pub struct RootRest {
+    pub s: u64,
+    pub r: u64,
+}
+
+// A number times 4^i.
+pub struct Lift {
+    pub a: u64,
+    pub i: u64,
+}
+
+// One step of the root by halves (Zimmermann): from the root of n to that of n * b * b + hi * b + lo,
+// by one division.
+fn refine(s: u64, r: u64, b: u64, hi: u64, lo: u64) -> RootRest
+    requires { ⌜ Ready s r b hi lo ⌝ }
+    ensures { λ p. ⌜ Refined s r b hi lo (p .s) (p .r) ⌝ }
+{
+    let t = r * b + hi;
+    let d = 2 * s;
+    let q = t / d;
+    let u = t % d;
+    let e = s * b + q;
+    let x = u * b + lo;
+    let y = q * q;
+    if y <= x {
+        return RootRest { s: e, r: x - y };
+    }
+    RootRest {
+        s: e - 1,
+        r: x + (2 * e - 1) - y,
+    }
+}
+
+// The whole root of t, which has 7 or 8 digits.
+fn seed(t: usize) -> u64
+    requires { ⌜ (64 ≤ t) × (t < 256) ⌝ }
+    ensures { λ s. ⌜ (s * s ≤ t) × (t ≤ s * s + 2 * s) × (8 ≤ s) × (s < 16) ⌝ }
+{
+    seeds::SEEDS[t - 64] as u64
+}
+
+// The root of a * 2^52, a having 53 or 54 digits: from that of the leading 7 or 8 digits, in four
+// steps that nearly double the digits each.
+fn whole_root(a: u64) -> RootRest
+    requires { ⌜ (4503599627370496 ≤ a) × (a < 18014398509481984) ⌝ }
+    ensures { λ p. ⌜ Rooted a (p .s) (p .r) ⌝ }
+{
+    let t = a / 0x4000_0000_0000;
+    let s = seed(t as usize);
+    let p3 = refine(
+        s,
+        t - s * s,
+        8,
+        a / 0x800_0000_0000 % 8,
+        a / 0x100_0000_0000 % 8,
+    );
+    let p4 = refine(
+        p3.s,
+        p3.r,
+        128,
+        a / 0x2_0000_0000 % 128,
+        a / 0x400_0000 % 128,
+    );
+    let p5 = refine(p4.s, p4.r, 8192, a / 8192 % 8192, a % 8192);
+    refine(p5.s, p5.r, 0x400_0000, 0, 0)
+}
+
+// a times the power of 4 that gives it 53 or 54 digits. Only a subnormal goes through the loop.
+fn lifted(a: u64) -> Lift
+    requires { ⌜ (0 < a) × (a ≤ 18014398509481982) ⌝ }
+    ensures { λ p. ⌜ Lifted a (p .a) (p .i) ⌝ }
+{
+    let mut x = a;
+    let mut i = 0u64;
+    while x < 0x10_0000_0000_0000 {
+        x = x * 4;
+        i = i + 1;
+    }
+    Lift { a: x, i }
+}
+
+// The bits of the root of a * 4^h units.
+fn root_bits(a: u64, h: u64) -> u64
+    requires { ⌜ (0 < a) × (a ≤ 18014398509481982) × (537 ≤ h) × (h ≤ 1560) ⌝ }
+    ensures { λ r. ⌜ RootBits (a * 2 ^ (h + h)) r ⌝ }
+{
+    let l = lifted(a);
+    let p = whole_root(l.a);
+    let g = (h - l.i - 26) * 0x10_0000_0000_0000;
+    let s = p.s;
+    // one more where the remainder is above the root, with no branch
+    let up = (0x8000_0000_0000_0000 + p.r - s - 1) / 0x8000_0000_0000_0000;
+    g + (s + up)
+}
+
+// The bits of the root of m * 2^k units.
+fn root_of_units(m: u64, k: u64) -> u64
+    requires { ⌜ (0 < m) × (m < 9007199254740992) × (k ≤ 2046) ⌝ }
+    ensures { λ r. ⌜ RootBits (m * 2 ^ k * 2 ^ 1074) r ⌝ }
+{
+    // with no branch: half of all k are odd
+    root_bits(m * (k % 2 + 1), 537 + k / 2)
+}
+
+// The bits of the root of the number above zero whose bits are b.
+fn positive_root(b: u64) -> u64
+    requires { ⌜ (0 < b) × (b < 9218868437227405312) ⌝ }
+    ensures { λ r. ⌜ (ofBits binary64 r ≡ rootOf (ofBits binary64 b)) × (r < 9218868437227405312) ⌝ }
+{
+    let e = b / 0x10_0000_0000_0000;
+    let t = b % 0x10_0000_0000_0000;
+    if e == 0 {
+        return root_of_units(t, 0);
+    }
+    root_of_units(t + 0x10_0000_0000_0000, e - 1)
+}
+
+// The f64 nearest to the square root of x. A zero and +∞ come back as they are; a number below zero
+// gives a NaN.
+pub fn root(x: f64) -> f64
+    ensures { λ r. ⌜ r ≡ rootOf x ⌝ }
+{
+    if x != x {
+        return x;
+    }
+    let b = f64::to_bits(x);
+    if b < 0x7ff0_0000_0000_0000 {
+        if b == 0 {
+            return x;
+        }
+        return f64::from_bits(positive_root(b));
+    }
+    if b == 0x7ff0_0000_0000_0000 {
+        return x;
+    }
+    if b == 0x8000_0000_0000_0000 {
+        return x;
+    }
+    0.0 / 0.0
+}
+
+// m / p to the nearest whole number, a tie to the even one.
+fn closest(m: u64, p: u64) -> u64
+    requires { ⌜ (0 < p) × (p < 9223372036854775808) × (m < 9007199254740992) ⌝ }
+    ensures { λ r. ⌜ r ≡ Nearest.closest m p ⌝ }
+{
+    let q = m / p;
+    let t = m % p * 2;
+    if t < p {
+        return q;
+    }
+    if t == p {
+        return q + q % 2;
+    }
+    q + 1
+}
+
+// m / 2^29 to the nearest whole number, a tie to the even one, with no branch.
+fn closest_29(m: u64) -> u64
+    requires { ⌜ m < 9007199254740992 ⌝ }
+    ensures { λ r. ⌜ r ≡ Nearest.closest m 536870912 ⌝ }
+{
+    (m + 0xfff_ffff + m / 0x2000_0000 % 2) / 0x2000_0000
+}
+
+fn power(d: u64) -> u64
+    requires { ⌜ d < 64 ⌝ }
+    ensures { λ r. ⌜ r ≡ 2 ^ d ⌝ }
+{
+    1u64 << d
+}
+
+// The bits of the f32 nearest to the f64 whose bits are b, both without their sign. The digits that
+// round up carry into the exponent, and on to infinity, by themselves.
+fn narrow_bits(b: u64) -> u32
+    requires { ⌜ b ≤ 9218868437227405312 ⌝ }
+    ensures { λ r. ⌜ Narrowed b r ⌝ }
+{
+    let e = b / 0x10_0000_0000_0000;
+    if e < 873 {
+        return 0;
+    }
+    if 1150 < e {
+        return 0x7f80_0000;
+    }
+    let m = b % 0x10_0000_0000_0000 + 0x10_0000_0000_0000;
+    if e < 897 {
+        let q = closest(m, power(926 - e));
+        return q as u32;
+    }
+    let q = closest_29(m);
+    let r = (e - 897) * 0x80_0000 + q;
+    r as u32
+}
+
+// The f32 nearest to x, a tie to the even one: Rust's `x as f32`.
+pub fn narrow(x: f64) -> f32
+    ensures { λ r. ⌜ r ≡ narrowOf x ⌝ }
+{
+    if x != x {
+        return 0.0 / 0.0;
+    }
+    let b = f64::to_bits(x);
+    if b < 0x8000_0000_0000_0000 {
+        return f32::from_bits(narrow_bits(b));
+    }
+    f32::from_bits(0x8000_0000 + narrow_bits(b - 0x8000_0000_0000_0000))
+}
