@@ -1,3 +1,4 @@
+pub mod Constants
 pub mod Root
 pub mod Narrow
 pub mod Inner

@@ -11,6 +11,12 @@ ghost use Rattle.ieee.specs.Root.{rootOf};
 ghost use Rattle.ieee.specs.Narrow.{narrowOf};
 ghost use Rattle.ieee.specs.Inner.{Ready, Refined, Rooted, Lifted, RootBits, Narrowed};
 
+// Where `sum::<f32>()` starts.
+pub const NEGATIVE_ZERO: f32 = -0.0;
+
+// Rust's `f32::MIN`, the finite f32 farthest below zero.
+pub const F32_MIN: f32 = -3.4028235e38;
+
 // A whole root and what its square leaves of the number: s * s + r, with r at most 2 * s.
 pub struct RootRest {
     pub s: u64,

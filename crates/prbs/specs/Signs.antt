@@ -14,8 +14,7 @@ use Rattle.params.specs.declared.Mode.the-variants.{M1, M2, M3}
 use Rattle.params.specs.Params.{carriersPerSegment}
 use Rattle.tables.specs.Places.{initOf}
 use Rattle.ofdm.specs.Band.{order}
-use Rattle.complex.specs.declared.C32.{C32}
-use Rattle.complex.specs.Complex.{cpx}
+use Rattle.complex.specs.Complex.{Pair, pair}
 
 -- the eleven bits D1 to D11 of a row of Table 3-16
 abbrev pub loaded : ℕ → List ℕ
@@ -63,5 +62,5 @@ abbrev pub pilotAmplitude : Float
 pilotAmplitude = ofBits binary32 0x3faa_aaab
 
 -- the pilot of a sign: 0 is +4/3, 1 is -4/3
-abbrev pub pilotValue : ℕ → C32
-pilotValue w = cpx (cond (eqb w 0) pilotAmplitude (neg pilotAmplitude)) (ofBits binary32 0)
+abbrev pub pilotValue : ℕ → Pair
+pilotValue w = pair (cond (eqb w 0) pilotAmplitude (neg pilotAmplitude)) (ofBits binary32 0)

@@ -5,6 +5,7 @@ ghost use Prim.Native.Nat.{_<_};
 ghost use lib.ListN.{length};
 ghost use Rattle.lists.specs.Lists.{upTo};
 ghost use Rattle.params.specs.Params.{modeFrom, carriersPerSegment, totalCarriers};
+ghost use Rattle.complex.specs.Complex.{of32};
 ghost use Rattle.prbs.specs.Signs.{loaded, Step, signAfter, segmentSigns, bandSigns, edgeSign, pilotValue};
 ghost use Rattle.prbs.specs.Signs.{xor as Signs·xor};
 ghost use Rattle.prbs.specs.SignMap.{SignMap};
@@ -118,13 +119,14 @@ pub fn edge_w(mode: Mode) -> u8
 
 // BPSK pilot value of W (Table 3-17): 1 is -4/3, 0 is +4/3.
 pub fn pilot_value(w: u8) -> C32
-    ensures { λ r. ⌜ r ≡ pilotValue w ⌝ }
+    ensures { λ r. ⌜ of32 r ≡ pilotValue w ⌝ }
 {
-    if w == 0 {
-        C32::new(PILOT_AMPLITUDE, 0.0)
+    let amplitude = if w == 0 {
+        PILOT_AMPLITUDE
     } else {
-        C32::new(-PILOT_AMPLITUDE, 0.0)
-    }
+        -PILOT_AMPLITUDE
+    };
+    C32::new(amplitude, 0.0)
 }
 
 // W of all carriers of the band, segment after segment from the lowest place.

@@ -1,0 +1,27 @@
+-- The float constants that document 01 names, each by its bits.
+-- Assumes nothing.
+use mathlib.Core.Bool.{true}
+use mathlib.Core.Path.{_≡_, refl}
+use lib.IntN.{pos}
+use lib.Ieee.{Float, fin, Format, binary32, ofBits}
+
+-- +0.0, where complex sums start
+abbrev pub plusZero : Format → Float
+plusZero f = ofBits f 0
+
+-- -0.0, where `sum::<f32>()` starts
+abbrev pub minusZero : Float
+minusZero = ofBits binary32 0x8000_0000
+
+-- `f32::MIN`, the finite f32 farthest below zero
+abbrev pub lowest : Float
+lowest = ofBits binary32 0xff7f_ffff
+
+minus-zero-is : minusZero ≡ fin true 0 (pos 0)
+unfolding ofBits
+minus-zero-is = refl
+
+-- 24 digits of 1, the largest that an f32 keeps, at the largest exponent
+lowest-is : lowest ≡ fin true 16777215 (pos 104)
+unfolding ofBits
+lowest-is = refl
