@@ -1,13 +1,19 @@
 // The C library: a thin function for each operation, so that a host can call it. Numbers pass as
 // themselves, a slice as a pointer and a length, and an answer through `&mut` numbers. Each returns
-// 0 or the refusal's number, and a refusal leaves everything lent as it was.
+// 0 or the refusal's number, and a refusal leaves everything lent as it was. The float functions at
+// the end refuse nothing and return their value.
 ghost use mathlib.Core.Path.{_≡_};
 ghost use Rattle.params.specs.Params.{modeFrom};
+ghost use Rattle.ieee.specs.Root.{rootOf};
+ghost use Rattle.ieee.specs.Narrow.{narrowOf};
+ghost use Rattle.complex.specs.Complex.{pair, norm32, norm64};
 ghost use Rattle.prbs.specs.SignMap.{SignMap};
 ghost use Rattle.frame.specs.Operations.{RoleMap};
 ghost use Rattle.carrier_lists.specs.Operations.{DataList};
 ghost use Rattle.host.specs.Host.{CarrierBin, ContinualCount};
 use carrier_lists::ContinualList;
+use complex::C32;
+use complex::C64;
 use ofdm::BandCarrier;
 use ofdm::BinLookup;
 
@@ -66,4 +72,36 @@ pub extern "C" fn sillurwy_continual_list(
         }
         ContinualList::Refused(code) => code,
     }
+}
+
+// The f64 nearest to the root of x.
+#[no_mangle]
+pub extern "C" fn sillurwy_root(x: f64) -> f64
+    ensures { λ r. ⌜ r ≡ rootOf x ⌝ }
+{
+    ieee::root(x)
+}
+
+// The f32 nearest to x.
+#[no_mangle]
+pub extern "C" fn sillurwy_narrow(x: f64) -> f32
+    ensures { λ r. ⌜ r ≡ narrowOf x ⌝ }
+{
+    ieee::narrow(x)
+}
+
+// The norm of an f32 pair.
+#[no_mangle]
+pub extern "C" fn sillurwy_norm32(re: f32, im: f32) -> f32
+    ensures { λ r. ⌜ r ≡ norm32 (pair re im) ⌝ }
+{
+    C32::new(re, im).norm()
+}
+
+// The norm of an f64 pair.
+#[no_mangle]
+pub extern "C" fn sillurwy_norm64(re: f64, im: f64) -> f64
+    ensures { λ r. ⌜ r ≡ norm64 (pair re im) ⌝ }
+{
+    C64::new(re, im).norm()
 }
