@@ -12,3 +12,7 @@ pub mod RootGain
 pub mod Nearest
 pub mod Patterns
 pub mod Worked
+pub mod Times
+pub mod Order
+pub mod Gain
+pub mod Sums
