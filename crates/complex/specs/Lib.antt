@@ -1,1 +1,4 @@
 pub mod Complex
+pub mod Turns
+pub mod Gains
+pub mod Totals

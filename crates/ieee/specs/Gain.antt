@@ -9,11 +9,11 @@ use Prim.Native.Nat.{ℕ, zero, suc, _+_, _-_, _*_, _/_, _%_, _^_, _<_, _≤_, z
 use native.Mathlib.Nat.{add-le-add, le-refl, le-trans, le-of-eq, le-of-suc-le-suc, lt-of-lt-of-le, lt-of-le-of-lt, lt-of-not-le, not-le-of-lt, zero-lt-suc, mul-pos, mul-comm, mul-assoc, mul-left-comm, mul-right-comm, mul-mul-mul-comm, one-mul, mul-one, zero-mul, add-mul, mul-sub, mul-le-mul, mul-le-mul-right, mul-le-mul-left, mul-lt-mul-of-pos-right, le-of-mul-le-mul-right, lt-of-mul-lt-mul-right, le-div-iff-mul-le, eq-of-mul-eq-mul-right}
 use native.Mathlib.Omega.{arith}
 use lib.IntN.{ℤ, pos, negsuc}
-use lib.Dec.{T, leb, ltb, eqb, leb→le, ltb→lt, lt→ltb, nltb→le, eqb→eq}
+use lib.Dec.{T, leb, ltb, eqb, leb→le, le→leb, ltb→lt, lt→ltb, nltb→le, eqb→eq}
 use lib.Pow.{pow-add, pow-pos, pow-mono, pow-lt}
 use lib.Ieee.{Float, nan, inf, fin, Format, prec, emax, low, up, down, unlike, size, round, neg, sum, add, sub, mul, le, fits, ofBits, toBits}
 use lib.Ieee.Digits.{size-lt, back}
-use lib.Ieee.Fits.{up-pos, down-pos, mul-fits, and-r, two as digits-two, two-le-pos}
+use lib.Ieee.Fits.{up-pos, down-pos, mul-fits, and-i, and-r, two as digits-two, two-le-pos}
 use lib.Ieee.Bits.{ofBits-toBits}
 use lib.Ieee.Exact.{HasValue, round-exact}
 use lib.Ieee.Nearest.{div-same}
@@ -145,6 +145,21 @@ pub room : (f : Format) (top : ℕ) (l : Level) → T (roomy f top l)
 room f top l R =
     let t = three (leb (l .unit) (low f)) (ltb (l .most) (2 ^ prec f)) (ltb (l .most * 2 ^ (l .digits + l .power * top)) (2 ^ (suc (emax f) + l .unit))) R in
     (leb→le _ _ (t .0), ltb→lt _ _ (t .1), ltb→lt _ _ (t .2))
+
+-- what is at most a roomy level, in the same units, is roomy
+lesser : (f : Format) (top m n u d p : ℕ) → m ≤ n → T (roomy f top (record { unit = u; most = n; digits = d; power = p })) → T (roomy f top (record { unit = u; most = m; digits = d; power = p }))
+lesser f top m n u d p M R =
+    let r = room f top (record { unit = u; most = n; digits = d; power = p }) R in
+    and-i (leb u (low f) && ltb m (2 ^ prec f)) (ltb (m * 2 ^ (d + p * top)) (2 ^ (suc (emax f) + u)))
+    (and-i (leb u (low f)) (ltb m (2 ^ prec f)) (le→leb _ _ (r .0)) (lt→ltb _ _ (lt-of-le-of-lt M (r .1))))
+    (lt→ltb _ _ (lt-of-le-of-lt (mul-le-mul-right (2 ^ (d + p * top)) M) (r .2)))
+
+-- where a sum of n values has room, so has one of fewer, and so has each of the values
+pub roomy-fewer : (f : Format) (top m n : ℕ) (l : Level) → m ≤ n → T (roomy f top (many n l)) → T (roomy f top (many m l))
+roomy-fewer f top m n l M R = lesser f top (m * l .most) (n * l .most) (l .unit) (l .digits) (l .power) (mul-le-mul-right (l .most) M) R
+
+pub roomy-one : (f : Format) (top n : ℕ) (l : Level) → 1 ≤ n → T (roomy f top (many n l)) → T (roomy f top l)
+roomy-one f top n l N R = lesser f top (l .most) (n * l .most) (l .unit) (l .digits) (l .power) (le-trans (le-of-eq (sym (one-mul (l .most)))) (mul-le-mul-right (l .most) N)) R
 
 -- no gain takes a number of the level beyond the format
 in-range : (f : Format) (top k : ℕ) (l : Level) (n : ℕ) → k ≤ top → T (roomy f top l) → n ≤ l .most * 2 ^ l .digits
@@ -373,6 +388,11 @@ constant-scaled k u n s x h = record { sign = s; count = n; few = le-of-eq (sym 
 
 pub one-scaled : (k : ℕ) (l : Level) (x y : Float) → Scaled l k x y → Scaled (many 1 l) k x y
 one-scaled k l x y h = record { sign = h .sign; count = h .count; few = rw (one-mul (l .most)) (h .few); here = h .here; there = h .there }
+
+pub more-scaled : (k m n : ℕ) (l : Level) (x y : Float) → m ≤ n → Scaled (many m l) k x y → Scaled (many n l) k x y
+more-scaled k m n l x y M h =
+    let N : m * l .most * 2 ^ l .digits ≤ n * l .most * 2 ^ l .digits = mul-le-mul-right (2 ^ l .digits) (mul-le-mul-right (l .most) M) in
+    record { sign = h .sign; count = h .count; few = le-trans (h .few) N; here = h .here; there = h .there }
 
 pub finer-scaled : (k v : ℕ) (l : Level) (x y : Float) → Scaled l k x y → Scaled (finer v l) k x y
 finer-scaled k v l x y h =

@@ -8,7 +8,7 @@ pub mod WholeRoot
 pub mod RootUnits
 pub mod RootNear
 pub mod RootBest
-pub mod RootGain
+pub mod RootShift
 pub mod Nearest
 pub mod Patterns
 pub mod Worked
@@ -16,3 +16,4 @@ pub mod Times
 pub mod Order
 pub mod Gain
 pub mod Sums
+pub mod RootGain

@@ -13,7 +13,7 @@ use lib.Ieee.Fits.{and-l, and-r, down-pos}
 use lib.Ieee.Exact.{HasValue}
 use lib.Ieee.Order.{le-of-values}
 use Rattle.ieee.specs.Root.{rootDrop, rootKept, rootOf}
-use Rattle.ieee.specs.RootGain.{units-long, root-value}
+use Rattle.ieee.specs.RootShift.{units-long, root-value}
 use Rattle.ieee.specs.RootBest.{rootValue, Nearer, nearer, root-value-mono}
 
 -- an f64 is m * 2 ^ j units, m below 2 ^ 53

@@ -2,7 +2,7 @@
 -- negated capture or a quarter turn does to a product is worked out with these. The sign of a zero is for Zeros.
 -- Assumes nothing.
 use mathlib.Core.Path.{_≡_, refl, sym, ap, _∙_}
-use mathlib.Core.Bool.{Bool, true, false, not, _&&_, cond}
+use mathlib.Core.Bool.{Bool, true, false, not, _&&_, cond, true≢false}
 use Prim.Native.Nat.{ℕ, zero, suc, _+_, _-_, _*_, _^_, _<_, _≤_}
 use native.Mathlib.Nat.{mul-comm, add-comm}
 use native.Mathlib.Omega.{arith}
@@ -148,3 +148,45 @@ square-flip f false x = refl
 pub times-flip-both : (f : Format) (b : Bool) (x y : Float) → mul f (flip b x) (flip b y) ≡ mul f x y
 times-flip-both f true x y = times-neg-neg f x y
 times-flip-both f false x y = refl
+
+-- ---- which values have no minus sign: a NaN counts as one without
+abbrev pub negative : Float → Bool
+negative nan = false
+negative (inf s) = s
+negative (fin s m e) = s
+
+units-sign : (f : Format) (s : Bool) (q k : ℕ) → negative (units f s q k) ≡ s
+unfolding units odd
+units-sign f s q k = go q (ltb (q * 2 ^ k) (2 ^ (low f + suc (emax f))))
+  where
+    go : (q : ℕ) (b : Bool) → negative (cond b (odd (suc (prec f)) s q k (low f)) (inf s)) ≡ s
+    go zero true = refl
+    go (suc q) true = refl
+    go q false = refl
+
+pub round-sign : (f : Format) (s : Bool) (n c : ℕ) → negative (round f s n c) ≡ s
+round-sign f s n c = ap negative (round-is f s n c) ∙ units-sign f s _ _
+
+unlike-self : (s : Bool) → unlike s s ≡ false
+unlike-self true = refl
+unlike-self false = refl
+
+pub square-sign : (f : Format) (x : Float) → negative (mul f x x) ≡ false
+unfolding mul
+square-sign f nan = refl
+square-sign f (inf s) = unlike-self s
+square-sign f (fin s m e) = round-sign f _ _ _ ∙ unlike-self s
+
+pub plus-sign : (f : Format) (x y : Float) → negative x ≡ false → negative y ≡ false → negative (add f x y) ≡ false
+unfolding add sum
+plus-sign f nan y p q = refl
+plus-sign f (inf s) nan p q = refl
+plus-sign f (inf true) (inf t) p q = absurd (true≢false p)
+plus-sign f (inf false) (inf true) p q = refl
+plus-sign f (inf false) (inf false) p q = refl
+plus-sign f (inf s) (fin t n d) p q = p
+plus-sign f (fin s m e) nan p q = refl
+plus-sign f (fin s m e) (inf t) p q = q
+plus-sign f (fin true m e) (fin t n d) p q = absurd (true≢false p)
+plus-sign f (fin false m e) (fin true n d) p q = absurd (true≢false q)
+plus-sign f (fin false m e) (fin false n d) p q = round-sign f false _ _
