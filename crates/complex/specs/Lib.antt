@@ -2,3 +2,4 @@ pub mod Complex
 pub mod Turns
 pub mod Gains
 pub mod Totals
+pub mod Bounds

@@ -1,13 +1,17 @@
 -- The float constants that document 01 names, each by its bits.
 -- Assumes nothing.
-use mathlib.Core.Bool.{true}
+use mathlib.Core.Bool.{true, false}
 use mathlib.Core.Path.{_≡_, refl}
 use lib.IntN.{pos}
-use lib.Ieee.{Float, fin, Format, binary32, ofBits}
+use lib.Ieee.{Float, fin, Format, binary32, binary64, ofBits}
 
 -- +0.0, where complex sums start
 abbrev pub plusZero : Format → Float
 plusZero f = ofBits f 0
+
+-- 0.5, which halves the guess's energy
+abbrev pub half : Float
+half = ofBits binary64 0x3fe0_0000_0000_0000
 
 -- -0.0, where `sum::<f32>()` starts
 abbrev pub minusZero : Float
@@ -17,11 +21,16 @@ minusZero = ofBits binary32 0x8000_0000
 abbrev pub lowest : Float
 lowest = ofBits binary32 0xff7f_ffff
 
-minus-zero-is : minusZero ≡ fin true 0 (pos 0)
+pub plus-zero-is : (f : Format) → plusZero f ≡ fin false 0 (pos 0)
+unfolding ofBits
+plus-zero-is binary32 = refl
+plus-zero-is binary64 = refl
+
+pub minus-zero-is : minusZero ≡ fin true 0 (pos 0)
 unfolding ofBits
 minus-zero-is = refl
 
 -- 24 digits of 1, the largest that an f32 keeps, at the largest exponent
-lowest-is : lowest ≡ fin true 16777215 (pos 104)
+pub lowest-is : lowest ≡ fin true 16777215 (pos 104)
 unfolding ofBits
 lowest-is = refl
