@@ -25,8 +25,8 @@ impl C32 {
         ensures { λ r. ⌜ of32 r ≡ product binary32 (of32 self) (of32 other) ⌝ }
     {
         C32 {
-            re: self.re * other.re - self.im * other.im,
-            im: self.re * other.im + self.im * other.re,
+            re: self.re * other.re - self.im * other.im, // ac - bd
+            im: self.re * other.im + self.im * other.re, // ad + bc
         }
     }
 
@@ -35,7 +35,7 @@ impl C32 {
     {
         C32 {
             re: self.re,
-            im: -self.im,
+            im: -self.im, // (a, -b)
         }
     }
 

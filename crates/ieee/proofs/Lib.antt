@@ -1,5 +1,5 @@
 pub mod Halving
-pub mod Table
+pub mod RootTable
 pub mod Finished
 pub mod Cases
 pub mod Narrowing

@@ -475,8 +475,12 @@ same-bits f (fin t m e) (inf r) s a c C h k = absurd k
 same-bits f (fin t m e) (fin r n d) s a c C h k =
     let u = 2 ^ low f in
     let q : m * up e * down d ≡ n * up d * down e = ratios a (down e) (m * up e) (down d) (n * up d) c C (sym (h .1)) (sym (k .1)) in
-    rw (h .0, k .0, div-same (m * up e * u) (down e) (n * up d * u) (down d) (down-pos e) (down-pos d)
-    (mul-right-comm (m * up e) u (down d) ∙ ap (λ (z : ℕ). z * u) q ∙ mul-right-comm (n * up d) (down e) u))
+    rw (
+      h .0,
+      k .0,
+      div-same (m * up e * u) (down e) (n * up d * u) (down d) (down-pos e) (down-pos d)
+          (mul-right-comm (m * up e) u (down d) ∙ ap (λ (z : ℕ). z * u) q ∙ mul-right-comm (n * up d) (down e) u),
+    )
 
 value-unique : (f : Format) (x y : Float) (s : Bool) (a c : ℕ) → T (fits f x) → T (fits f y) → 0 < c → HasValue x s a c → HasValue y s a c → x ≡ y
 value-unique f x y s a c p q C h k = sym (ofBits-toBits f x p) ∙ ap (ofBits f) (same-bits f x y s a c C h k) ∙ ofBits-toBits f y q

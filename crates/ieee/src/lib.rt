@@ -56,7 +56,7 @@ fn seed(t: usize) -> u64
     requires { ⌜ (64 ≤ t) × (t < 256) ⌝ }
     ensures { λ s. ⌜ (s * s ≤ t) × (t ≤ s * s + 2 * s) × (8 ≤ s) × (s < 16) ⌝ }
 {
-    seeds::SEEDS[t - 64] as u64
+    seeds::SEEDS[t / 8 - 8][t % 8] as u64
 }
 
 // The root of a * 2^52, a having 53 or 54 digits: from that of the leading 7 or 8 digits, in four

@@ -21,7 +21,7 @@ new-requires : tie.Need-new-requires
 new-requires c κs = search needs
 
 returns : tie.Need-returns
-returns c = 
+returns c =
     let w = c .before .before .args .w in
     let a = c .before .if1 .amplitude in
     c .new .ensures ∙ elim (c .before .if1 .came) [ inl h ↦ plus w a (h .0 .taken) (h .1) | inr h ↦ minus w a (h .0 .left) (h .1) ]
