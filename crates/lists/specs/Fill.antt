@@ -14,18 +14,18 @@ use Rattle.lists.specs.Lists.{upTo, range, joined, chosen}
 use Rattle.lists.specs.Select.{length-upTo, length-joined}
 
 -- entry by entry: `out` is f's first i values before what was there
-fill-step : (f : ℕ → ℕ) (old : List ℕ) (i : ℕ) → i < length old → set (upTo f i ++ drop i old) i (f i) ≡ upTo f (i + 1) ++ drop (i + 1) old
+fill-step : {A : Type 0} (f : ℕ → A) (old : List A) (i : ℕ) → i < length old → set (upTo f i ++ drop i old) i (f i) ≡ upTo f (i + 1) ++ drop (i + 1) old
 fill-step f old i h =
-    rw (add-one, drop-cons old i 0 h)
-    (set-at (upTo f i) (getD old i 0) (drop (suc i) old) (f i) i (length-upTo f i) ∙ sym (append-assoc (upTo f i) (f i ∷ []) (drop (suc i) old)))
+    rw (add-one, drop-cons old i (f i) h)
+    (set-at (upTo f i) (getD old i (f i)) (drop (suc i) old) (f i) i (length-upTo f i) ∙ sym (append-assoc (upTo f i) (f i ∷ []) (drop (suc i) old)))
 
-pub fill-again : (f : ℕ → ℕ) (old out : List ℕ) (i v : ℕ) → out ≡ upTo f i ++ drop i old → v ≡ f i → i < length old
+pub fill-again : {A : Type 0} (f : ℕ → A) (old out : List A) (i : ℕ) (v : A) → out ≡ upTo f i ++ drop i old → v ≡ f i → i < length old
     → set out i v ≡ upTo f (i + 1) ++ drop (i + 1) old
 fill-again f old out i v e q h = rw (e, q) (fill-step f old i h)
 
-pub fill-done : (f : ℕ → ℕ) (old out : List ℕ) (n i : ℕ) → out ≡ upTo f i ++ drop i old → length old ≤ i → i ≡ n → out ≡ upTo f n
+pub fill-done : {A : Type 0} (f : ℕ → A) (old out : List A) (n i : ℕ) → out ≡ upTo f i ++ drop i old → length old ≤ i → i ≡ n → out ≡ upTo f n
 fill-done f old out n i e h q =
-    e ∙ (ap (λ (l : List ℕ). upTo f i ++ l) (drop-of-length-le old h) ∙ (append-nil (upTo f i) ∙ ap (upTo f) q))
+    e ∙ (ap (λ (l : List _). upTo f i ++ l) (drop-of-length-le old h) ∙ (append-nil (upTo f i) ∙ ap (upTo f) q))
 
 -- part by part: a part written behind what is written already
 pub part-step : (front old out part : List ℕ) (a e : ℕ) → length front ≡ a → a ≤ e → out ≡ front ++ drop a old → putMid a (e - a) out part ≡ (front ++ part) ++ drop e old

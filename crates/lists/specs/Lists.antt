@@ -5,7 +5,7 @@ use mathlib.Core.Bool.{Bool, cond}
 use mathlib.Core.List.{List, [], _∷_, _++_}
 
 -- f at 0, 1, .. n - 1
-abbrev pub upTo : (ℕ → ℕ) → ℕ → List ℕ
+abbrev pub upTo : {A : Type 0} → (ℕ → A) → ℕ → List A
 upTo f zero = []
 upTo f (suc n) = upTo f n ++ (f n ∷ [])
 

@@ -16,11 +16,11 @@ use Rattle.lists.specs.Lists.{upTo, range, joined, select, chosen}
 use Rattle.lists.specs.Tests.{countBelow}
 
 -- the list of f at 0 to n - 1: its length, and its entry i
-pub length-upTo : (f : ℕ → ℕ) (n : ℕ) → length (upTo f n) ≡ n
+pub length-upTo : {A : Type 0} (f : ℕ → A) (n : ℕ) → length (upTo f n) ≡ n
 length-upTo f zero = refl
 length-upTo f (suc n) = simp (length-append, length-upTo f n, add-one)
 
-pub getD-upTo : (f : ℕ → ℕ) (n i d : ℕ) → i < n → getD (upTo f n) i d ≡ f i
+pub getD-upTo : {A : Type 0} (f : ℕ → A) (n i : ℕ) (d : A) → i < n → getD (upTo f n) i d ≡ f i
 getD-upTo f zero i d h = absurd (not-suc-le-zero h)
 getD-upTo f (suc n) i d h = last (decLt i n) (λ l. getD-upTo f n i d l)
   where
@@ -29,7 +29,7 @@ getD-upTo f (suc n) i d h = last (decLt i n) (λ l. getD-upTo f n i d l)
     last (no g) r = let e : i ≡ n = omega arith in rw e (getD-at (upTo f n) (f n) [] d n (length-upTo f n))
 
 -- a list is the values of its own lookup
-upTo-getD : (xs : List ℕ) → upTo (λ i. getD xs i 0) (length xs) ≡ xs
+upTo-getD : (xs : List ℕ) → upTo (λ (i : ℕ). getD xs i 0) (length xs) ≡ xs
 upTo-getD xs =
     ext-getD 0 _ xs (length-upTo _ (length xs)) (λ i h.
     getD-upTo _ (length xs) i 0 (rw (length-upTo (λ i. getD xs i 0) (length xs)) at h))
