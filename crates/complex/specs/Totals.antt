@@ -1,12 +1,12 @@
 -- Long sums of pairs: each part is the long sum of the parts, so what holds of those (`Rattle.ieee.specs.Sums`) holds of it.
 -- Assumes nothing.
 use mathlib.Core.List.{List, [], _∷_, map}
-use mathlib.Core.Path.{_≡_, refl, sym, ap, _∙_, subst}
+use mathlib.Core.Path.{_≡_, refl, sym, ap, subst}
 use Prim.Native.Nat.{ℕ, suc, _+_, _≤_}
 use lib.Dec.{T}
 use lib.ListN.{length}
 use lib.Ieee.{Float, Format}
-use Rattle.ieee.specs.Gain.{Level, Scaled, roomy, many}
+use Rattle.ieee.specs.Levels.{Level, Scaled, roomy, many}
 use Rattle.ieee.specs.Sums.{total, Each, total-scaled}
 use Rattle.complex.specs.Complex.{Pair, pair, plus}
 use Rattle.complex.specs.Gains.{BothScaled}

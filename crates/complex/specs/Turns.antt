@@ -3,7 +3,7 @@
 -- but for the sign of a zero (`Alike`), and squares do not see that.
 -- Assumes nothing.
 use mathlib.Core.Bool.{Bool, true, false}
-use mathlib.Core.Path.{_≡_, refl, sym, ap, _∙_}
+use mathlib.Core.Path.{_≡_, refl, ap, _∙_}
 use lib.Ieee.{Float, Format, binary64, unlike, neg, add, sub, mul}
 use Rattle.ieee.specs.Narrow.{narrowOf}
 use Rattle.ieee.specs.Root.{rootOf}
@@ -42,13 +42,17 @@ turned-product f x y =
 part : (f : Format) (c : Bool) (u v u' v' : Float) → u' ≡ flip c u → v' ≡ flip c v → canon (add f u' v') ≡ canon (flip c (add f u v))
 part f c u v u' v' p q = rw (p, q) (plus-flip f c u v)
 
-pub negated-product : (f : Format) (a b : Bool) (x y : Pair) → Alike (product f (negated a x) (conjugate (negated b y))) (negated (unlike a b) (product f x (conjugate y)))
+pub negated-product : (f : Format) (a b : Bool) (x y : Pair)
+    → Alike (product f (negated a x) (conjugate (negated b y))) (negated (unlike a b) (product f x (conjugate y)))
 unfolding sub
 negated-product f a b x y =
     let c = unlike a b in
-    let m : (u v : Float) → mul f (flip a u) (neg (flip b v)) ≡ flip c (mul f u (neg v)) = λ u v. ap (λ (z : Float). mul f (flip a u) z) (neg-flip b v) ∙ times-flip f a b u (neg v) in
+    let m : (u v : Float) → mul f (flip a u) (neg (flip b v)) ≡ flip c (mul f u (neg v)) =
+    λ u v. ap (λ (z : Float). mul f (flip a u) z) (neg-flip b v) ∙ times-flip f a b u (neg v) in
     record {
-      re = part f c (mul f (x .re) (y .re)) (neg (mul f (x .im) (neg (y .im)))) _ _ (times-flip f a b (x .re) (y .re)) (ap neg (m (x .im) (y .im)) ∙ neg-flip c (mul f (x .im) (neg (y .im))));
+      re =
+          part f c (mul f (x .re) (y .re)) (neg (mul f (x .im) (neg (y .im)))) _ _ (times-flip f a b (x .re) (y .re))
+          (ap neg (m (x .im) (y .im)) ∙ neg-flip c (mul f (x .im) (neg (y .im))));
       im = part f c (mul f (x .re) (neg (y .im))) (mul f (x .im) (y .re)) _ _ (m (x .re) (y .im)) (times-flip f a b (x .im) (y .re));
     }
 
@@ -82,7 +86,8 @@ pub alike-size : (f : Format) (b : Bool) (p q : Pair) → Alike p (negated b q) 
 alike-size f b p q h = λ j. add f (squared f b (p .re) (q .re) (h .re) j) (squared f b (p .im) (q .im) (h .im) j)
 
 pub turned-size : (f : Format) (x : Pair) → squaredSize f (turned x) ≡ squaredSize f x
-turned-size f x = ap (λ (z : Float). add f z (mul f (x .re) (x .re))) (times-neg-neg f (x .im) (x .im)) ∙ plus-comm f (mul f (x .im) (x .im)) (mul f (x .re) (x .re))
+turned-size f x =
+    ap (λ (z : Float). add f z (mul f (x .re) (x .re))) (times-neg-neg f (x .im) (x .im)) ∙ plus-comm f (mul f (x .im) (x .im)) (mul f (x .re) (x .re))
 
 pub negated-size : (f : Format) (b : Bool) (x : Pair) → squaredSize f (negated b x) ≡ squaredSize f x
 negated-size f b x = alike-size f b (negated b x) x (record { re = refl; im = refl })

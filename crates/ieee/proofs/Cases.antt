@@ -1,19 +1,21 @@
--- An f64 by its bits b: what `rootOf` is in each of the cases that `root` tells apart. Assumes nothing.
+-- An f64 by its bits b: what value they stand for, what `rootOf` is in each of the cases that `root` tells apart, and which bits are no NaN.
+-- `narrow` goes by the same cases.
+-- Assumes nothing.
 use mathlib.Core.Path.{_≡_, refl, sym, ap, _∙_, subst}
 use mathlib.Core.Bool.{Bool, true, false, not, cond}
 use mathlib.Core.Logic.{_⊎_, inl, inr}
 use Prim.Native.Nat.{ℕ, zero, suc, _+_, _-_, _*_, _/_, _%_, _^_, _≤_, _<_}
-use native.Mathlib.Nat.{le-of-eq, le-of-lt, le-trans, lt-of-lt-of-le, zero-add, mul-one, mul-pos, eq-or-lt-of-le}
+use native.Mathlib.Nat.{zero-add, mul-pos, eq-or-lt-of-le}
 use native.Mathlib.Omega.{arith}
-use lib.Dec.{T, ltb, leb, ltb→lt, nltb→le, lt→ltb, T-not, not-T}
+use lib.Dec.{T, nltb→le}
 use lib.Arith.{le→nltb}
 use lib.Pow.{pow-pos}
-use lib.Ieee.{Float, nan, inf, fin, Format, binary32, binary64, ne, div, fits, isNan, hid, ones, top, ofBits, ofFields, toBits, nanBits}
+use lib.Ieee.{Float, nan, inf, fin, Format, binary64, ne, div, fits, isNan, hid, ones, top, ofBits, toBits, nanBits}
 use lib.Ieee.Compare.{nan-differs}
-use lib.Ieee.Bits.{ofBits-toBits, toBits-lt, nanBits-is, nanBits-above}
+use lib.Ieee.Bits.{ofBits-toBits, nanBits-is, nanBits-above}
 use lib.Ieee.Exact.{HasValue}
 use Rattle.ieee.specs.Root.{rootUnits, rootOf}
-use Rattle.ieee.specs.Patterns.{pattern, value-low, value-mid}
+use Rattle.ieee.specs.Patterns.{value-low, value-mid}
 use Rattle.ieee.specs.RootUnits.{root-of-value, root-of-negative}
 
 -- ---- NaN or not
@@ -23,12 +25,6 @@ no-nan nan e = subst T (sym nan-differs ∙ e) tt
 no-nan (inf s) e = tt
 no-nan (fin s m e) d = tt
 
-pub is-nan : (x : Float) → isNan x ≡ true → x ≡ nan
-unfolding isNan
-is-nan nan e = refl
-is-nan (inf s) e = absurd (subst T (sym e) tt)
-is-nan (fin s m d) e = absurd (subst T (sym e) tt)
-
 -- a pattern up to the infinity's, with any sign, is no NaN's
 pub no-nan-bits : (f : Format) (n : ℕ) → n % top f ≤ ones f * hid f → T (not (nanBits f n))
 no-nan-bits f n h = subst (λ (b : Bool). T (not b)) (sym (nanBits-above f n)) (le→nltb (ones f * hid f) (n % top f) h)
@@ -37,11 +33,14 @@ no-nan-bits f n h = subst (λ (b : Bool). T (not b)) (sym (nanBits-above f n)) (
 pub bits-in : (f : Format) (x : Float) → T (fits f x) → T (not (isNan x)) → toBits f x % top f ≤ ones f * hid f
 bits-in f x h k =
     nltb→le (ones f * hid f) (toBits f x % top f)
-    (subst (λ (b : Bool). T (not b)) (nanBits-above f (toBits f x)) (subst (λ (b : Bool). T (not b)) (sym (nanBits-is f (toBits f x) ∙ ap isNan (ofBits-toBits f x h))) k))
+    (subst (λ (b : Bool). T (not b)) (nanBits-above f (toBits f x))
+    (subst (λ (b : Bool). T (not b)) (sym (nanBits-is f (toBits f x) ∙ ap isNan (ofBits-toBits f x h))) k))
 
 -- ---- the cases of a pattern
-pub low-value : (s : Bool) (b : ℕ) → b / 4503599627370496 ≡ 0 → HasValue (ofBits binary64 (cond s 9223372036854775808 0 + b)) s (b % 4503599627370496 * 2 ^ 0) (2 ^ 1074)
-low-value s b e = subst (λ (x : ℕ). HasValue (ofBits binary64 (cond s 9223372036854775808 0 + b)) s (x * 2 ^ 0) (2 ^ 1074)) (whole b e) (value-low binary64 s b (small b e))
+pub low-value : (s : Bool) (b : ℕ) → b / 4503599627370496 ≡ 0
+    → HasValue (ofBits binary64 (cond s 9223372036854775808 0 + b)) s (b % 4503599627370496 * 2 ^ 0) (2 ^ 1074)
+low-value s b e =
+    subst (λ (x : ℕ). HasValue (ofBits binary64 (cond s 9223372036854775808 0 + b)) s (x * 2 ^ 0) (2 ^ 1074)) (whole b e) (value-low binary64 s b (small b e))
   where
     small : (b : ℕ) → b / 4503599627370496 ≡ 0 → b < 4503599627370496
     small b e = omega arith
@@ -54,7 +53,8 @@ pub mid-value : (s : Bool) (b : ℕ) → (b / 4503599627370496 ≡ 0 → ⊥) �
 mid-value s b n h =
     let k = b / 4503599627370496 - 1 in
     let q = b % 4503599627370496 + 4503599627370496 in
-    subst (λ (x : ℕ). HasValue (ofBits binary64 (cond s 9223372036854775808 0 + x)) s (q * 2 ^ k) (2 ^ 1074)) (join b n) (value-mid binary64 s k q (lo b) (hi b) (field b n h))
+    subst (λ (x : ℕ). HasValue (ofBits binary64 (cond s 9223372036854775808 0 + x)) s (q * 2 ^ k) (2 ^ 1074)) (join b n)
+    (value-mid binary64 s k q (lo b) (hi b) (field b n h))
   where
     join : (b : ℕ) → (b / 4503599627370496 ≡ 0 → ⊥) → (b / 4503599627370496 - 1) * 4503599627370496 + (b % 4503599627370496 + 4503599627370496) ≡ b
     join b n = omega arith
@@ -84,7 +84,8 @@ pub root-mid : (b : ℕ) → (b / 4503599627370496 ≡ 0 → ⊥) → b < 921886
     → rootOf (ofBits binary64 b) ≡ rootUnits ((b % 4503599627370496 + 4503599627370496) * 2 ^ (b / 4503599627370496 - 1) * 2 ^ 1074)
 root-mid b n h =
     ap (λ (x : ℕ). rootOf (ofBits binary64 x)) (sym (zero-add b))
-    ∙ root-of-value (ofBits binary64 (0 + b)) ((b % 4503599627370496 + 4503599627370496) * 2 ^ (b / 4503599627370496 - 1)) (mid-value false b n h) (mul-pos (more-than (b % 4503599627370496)) (pow-pos (b / 4503599627370496 - 1)))
+    ∙ root-of-value (ofBits binary64 (0 + b)) ((b % 4503599627370496 + 4503599627370496) * 2 ^ (b / 4503599627370496 - 1))
+    (mid-value false b n h) (mul-pos (more-than (b % 4503599627370496)) (pow-pos (b / 4503599627370496 - 1)))
 
 -- a negative one
 at-inf : rootOf (ofBits binary64 (9223372036854775808 + 9218868437227405312)) ≡ nan
@@ -95,18 +96,22 @@ negative-finite : (b : ℕ) → 0 < b → b < 9218868437227405312 → rootOf (of
 negative-finite b p h = go (b / 4503599627370496) refl
   where
     go : (e : ℕ) → b / 4503599627370496 ≡ e → rootOf (ofBits binary64 (9223372036854775808 + b)) ≡ nan
-    go zero e = root-of-negative (ofBits binary64 (9223372036854775808 + b)) (b % 4503599627370496 * 2 ^ 0) (low-value true b e) (mul-pos (some b p e) (pow-pos 0))
+    go zero e =
+        root-of-negative (ofBits binary64 (9223372036854775808 + b)) (b % 4503599627370496 * 2 ^ 0) (low-value true b e) (mul-pos (some b p e) (pow-pos 0))
     go (suc k) e =
-        root-of-negative (ofBits binary64 (9223372036854775808 + b)) ((b % 4503599627370496 + 4503599627370496) * 2 ^ (b / 4503599627370496 - 1)) (mid-value true b (λ z. no k (sym z ∙ e)) h)
+        root-of-negative (ofBits binary64 (9223372036854775808 + b)) ((b % 4503599627370496 + 4503599627370496) * 2 ^ (b / 4503599627370496 - 1))
+        (mid-value true b (λ z. no k (sym z ∙ e)) h)
         (mul-pos (more-than (b % 4503599627370496)) (pow-pos (b / 4503599627370496 - 1)))
       where
         no : (k : ℕ) → 0 ≡ suc k → ⊥
         no k e = omega arith
 
-pub root-negative : (b : ℕ) → 9223372036854775808 < b → b < 18446744073709551616 → b % 9223372036854775808 ≤ 9218868437227405312 → rootOf (ofBits binary64 b) ≡ nan
+pub root-negative : (b : ℕ) → 9223372036854775808 < b → b < 18446744073709551616 → b % 9223372036854775808 ≤ 9218868437227405312
+    → rootOf (ofBits binary64 b) ≡ nan
 root-negative b lo hi m = go (eq-or-lt-of-le (within b lo hi m))
   where
-    within : (b : ℕ) → 9223372036854775808 < b → b < 18446744073709551616 → b % 9223372036854775808 ≤ 9218868437227405312 → b - 9223372036854775808 ≤ 9218868437227405312
+    within : (b : ℕ) → 9223372036854775808 < b → b < 18446744073709551616 → b % 9223372036854775808 ≤ 9218868437227405312
+        → b - 9223372036854775808 ≤ 9218868437227405312
     within b lo hi m = omega arith
 
     back : (b : ℕ) → 9223372036854775808 < b → 9223372036854775808 + (b - 9223372036854775808) ≡ b

@@ -1,12 +1,14 @@
--- What `finish` makes of a lifted operand, its root and its remainder. Assumes nothing.
+-- What `root_bits` makes of a lifted operand, its root and its remainder: the bits of the nearest root. And how `root_of_units` writes its
+-- operand as a number times a power of 4.
+-- Assumes nothing.
 use mathlib.Core.Path.{_≡_, refl, sym, ap, _∙_, subst}
-use mathlib.Core.Bool.{Bool, true, false, not, cond}
+use mathlib.Core.Bool.{Bool, true, false, not}
 use Prim.Native.Nat.{ℕ, zero, suc, _+_, _-_, _*_, _/_, _%_, _^_, _≤_, _<_}
-use native.Mathlib.Nat.{le-trans, le-of-eq, lt-of-le-of-lt, lt-of-not-le, zero-add, mul-one, mul-comm, mul-assoc, mul-le-mul}
+use native.Mathlib.Nat.{lt-of-not-le, zero-add, mul-one, mul-le-mul}
 use native.Mathlib.Omega.{arith}
 use lib.Dec.{T, ltb, ltb→lt, nltb→le}
-use lib.Pow.{pow-add}
-use lib.Ieee.{Float, binary64, ofBits, units}
+use lib.Ieee.{binary64, ofBits}
+use Rattle.ieee.specs.Numbers.{shift}
 use Rattle.ieee.specs.Root.{more, rootUnits}
 use Rattle.ieee.specs.Inner.{Lifted, Rooted, RootBits}
 use Rattle.ieee.specs.Patterns.{encode}
@@ -26,11 +28,12 @@ below-next x s r e h l =
     omega arith) in
     omega arith
 
-pub record Nearest (s r q : ℕ) : Type 0 where
+-- q has 53 digits
+pub record Long (q : ℕ) : Type 0 where
   pub low : 4503599627370496 ≤ q
   pub high : q < 9007199254740992
 
-pub nearest-in : (x s r : ℕ) (b : Bool) → Rooted x s r → x ≤ 18014398509481982 → (T b → s < r) → Nearest s r (more b s)
+pub nearest-in : (x s r : ℕ) (b : Bool) → Rooted x s r → x ≤ 18014398509481982 → (T b → s < r) → Long (more b s)
 nearest-in x s r true p h y = let w = p .low in record { low = omega arith; high = below-next x s r (p .whole) h (y tt) }
 nearest-in x s r false p h y = record { low = p .low; high = below-top x s r (p .whole) h }
 
@@ -41,11 +44,12 @@ operand : (a h x i : ℕ) → Lifted a x i → 537 ≤ h → x * 450359962737049
 operand a h x i l b =
     let g = h - i - 26 in
     ap (λ (z : ℕ). z * 4503599627370496 * 2 ^ (g + g)) (l .whole)
-    ∙ ap (λ (z : ℕ). z * 2 ^ (g + g)) (mul-assoc a (2 ^ (i + i)) 4503599627370496 ∙ ap (λ (z : ℕ). a * z) (sym (pow-add 2 (i + i) 52)))
-    ∙ mul-assoc a (2 ^ (i + i + 52)) (2 ^ (g + g))
-    ∙ ap (λ (z : ℕ). a * z) (sym (pow-add 2 (i + i + 52) (g + g)) ∙ ap (λ (z : ℕ). 2 ^ z) (exponents h i (l .few) b))
+    ∙ ap (λ (z : ℕ). z * 2 ^ (g + g)) (shift a (i + i) 52)
+    ∙ shift a (i + i + 52) (g + g)
+    ∙ ap (λ (z : ℕ). a * 2 ^ z) (exponents h i (l .few) b)
 
-pub finished : (a h x i s r : ℕ) → Lifted a x i → Rooted x s r → 537 ≤ h → h ≤ 1560 → RootBits (a * 2 ^ (h + h)) ((h - i - 26) * 4503599627370496 + more (ltb s r) s)
+pub finished : (a h x i s r : ℕ) → Lifted a x i → Rooted x s r → 537 ≤ h → h ≤ 1560
+    → RootBits (a * 2 ^ (h + h)) ((h - i - 26) * 4503599627370496 + more (ltb s r) s)
 finished a h x i s r l p lo hi =
     let g = h - i - 26 in
     let q = more (ltb s r) s in
@@ -75,9 +79,11 @@ finished a h x i s r l p lo hi =
     bits h i q k l = omega arith
 
 -- as the code has it, with no branch
-pub finished-by : (a h x i s r : ℕ) → Lifted a x i → Rooted x s r → 537 ≤ h → h ≤ 1560 → RootBits (a * 2 ^ (h + h)) ((h - i - 26) * 4503599627370496 + (s + (9223372036854775808 + r - s - 1) / 9223372036854775808))
+pub finished-by : (a h x i s r : ℕ) → Lifted a x i → Rooted x s r → 537 ≤ h → h ≤ 1560
+    → RootBits (a * 2 ^ (h + h)) ((h - i - 26) * 4503599627370496 + (s + (9223372036854775808 + r - s - 1) / 9223372036854775808))
 finished-by a h x i s r l p lo hi =
-    subst (λ (q : ℕ). RootBits (a * 2 ^ (h + h)) ((h - i - 26) * 4503599627370496 + q)) (go (ltb s r) (ltb→lt s r) (nltb→le s r)) (finished a h x i s r l p lo hi)
+    subst (λ (q : ℕ). RootBits (a * 2 ^ (h + h)) ((h - i - 26) * 4503599627370496 + q)) (go (ltb s r) (ltb→lt s r) (nltb→le s r))
+    (finished a h x i s r l p lo hi)
   where
     S : s < 9007199254740992
     S = below-top x s r (p .whole) (l .high)
@@ -91,20 +97,21 @@ finished-by a h x i s r l p lo hi =
 
 -- m * 2 ^ k units of 2 ^ -1074, as a number times a power of 4
 pub even-half : (m k : ℕ) → k % 2 ≡ 0 → m * 2 ^ (537 + k / 2 + (537 + k / 2)) ≡ m * 2 ^ k * 2 ^ 1074
-even-half m k e = ap (λ (z : ℕ). m * 2 ^ z) (sum k e) ∙ ap (λ (z : ℕ). m * z) (pow-add 2 k 1074) ∙ sym (mul-assoc m (2 ^ k) (2 ^ 1074))
+even-half m k e = ap (λ (z : ℕ). m * 2 ^ z) (sum k e) ∙ sym (shift m k 1074)
   where
     sum : (k : ℕ) → k % 2 ≡ 0 → 537 + k / 2 + (537 + k / 2) ≡ k + 1074
     sum k e = omega arith
 
 pub odd-half : (m k : ℕ) → k % 2 ≡ 1 → m * 2 * 2 ^ (537 + k / 2 + (537 + k / 2)) ≡ m * 2 ^ k * 2 ^ 1074
-odd-half m k e = mul-assoc m 2 (2 ^ (537 + k / 2 + (537 + k / 2))) ∙ ap (λ (z : ℕ). m * z) (sym (pow-add 2 1 (537 + k / 2 + (537 + k / 2))) ∙ ap (λ (z : ℕ). 2 ^ z) (sum k e) ∙ pow-add 2 k 1074) ∙ sym (mul-assoc m (2 ^ k) (2 ^ 1074))
+odd-half m k e = shift m 1 (537 + k / 2 + (537 + k / 2)) ∙ ap (λ (z : ℕ). m * 2 ^ z) (sum k e) ∙ sym (shift m k 1074)
   where
     sum : (k : ℕ) → k % 2 ≡ 1 → 1 + (537 + k / 2 + (537 + k / 2)) ≡ k + 1074
     sum k e = omega arith
 
 -- both at once: m * (k % 2 + 1)
 abbrev Half : ℕ → ℕ → ℕ → Type 0
-Half m k a = (0 < m → 0 < a) × (m < 9007199254740992 → a ≤ 18014398509481982) × (a * 2 ^ (537 + k / 2 + (537 + k / 2)) ≡ m * 2 ^ k * 2 ^ 1074)
+Half m k a =
+    (0 < m → 0 < a) × (m < 9007199254740992 → a ≤ 18014398509481982) × (a * 2 ^ (537 + k / 2 + (537 + k / 2)) ≡ m * 2 ^ k * 2 ^ 1074)
 
 pub half : (m k : ℕ) → Half m k (m * (k % 2 + 1))
 half m k = go (k % 2) refl

@@ -1,8 +1,11 @@
--- The arithmetic of one step of the root by halves. Assumes nothing.
-use mathlib.Core.Path.{_≡_, refl, sym, ap, _∙_, subst}
+-- The arithmetic of one step of the root by halves: what keeps each number within a word, that the step gives a root and its remainder again,
+-- and that four steps make a whole root.
+-- Assumes nothing.
+use mathlib.Core.Path.{_≡_, sym, ap, _∙_, subst}
 use Prim.Native.Nat.{ℕ, zero, suc, _+_, _-_, _*_, _/_, _%_, _≤_, _<_}
-use native.Mathlib.Nat.{le-trans, le-of-eq, le-of-suc-le-suc, lt-of-lt-of-le, mul-comm, mul-assoc, mul-left-comm, mul-right-comm, add-assoc, add-comm, add-left-comm, mul-add, add-mul, suc-mul, mul-suc, mul-le-mul, mul-le-mul-left, mul-le-mul-right, one-mul, mul-one, div-one, div-div-eq-div-mul, div-add-mod', mod-lt, div-lt-iff-lt-mul}
+use native.Mathlib.Nat.{le-trans, le-of-eq, le-of-suc-le-suc, mul-comm, mul-assoc, mul-left-comm, mul-mul-mul-comm, add-assoc, mul-add, add-mul, suc-mul, mul-le-mul, mul-le-mul-right, le-mul-of-pos-right, div-one, div-div-eq-div-mul, div-add-mod', mod-lt, div-lt-iff-lt-mul}
 use native.Mathlib.Omega.{arith}
+use Rattle.ieee.specs.Numbers.{le-multiple}
 use Rattle.ieee.specs.Inner.{Ready, Refined, Rooted}
 
 -- the bounds that keep every step of the code within a word
@@ -30,7 +33,7 @@ bounds s r b hi lo h =
     let u = (r * b + hi) % (2 * s) in
     let rb : r * b ≤ 2 * (s * b) = le-trans (mul-le-mul-right b (h .rem)) (le-of-eq (twice s b)) in
     let bb : b * b ≤ 2 * (s * b) = le-trans (mul-le-mul-right b (h .base)) (le-of-eq (twice s b)) in
-    let sb : b ≤ s * b = le-trans (le-of-eq (sym (one-mul b))) (mul-le-mul-right b P) in
+    let sb : b ≤ s * b = le-multiple s b P in
     let lt : r * b + hi < suc b * (2 * s) = rw (suc-mul b (2 * s), mul-comm b (2 * s), mul-assoc 2 s b) (omega arith) in
     let qb : q ≤ b = le-of-suc-le-suc (div-lt-iff-lt-mul D .1 lt) in
     record {
@@ -39,13 +42,10 @@ bounds s r b hi lo h =
       sb = sb;
       qb = qb;
       qq = mul-le-mul qb qb;
-      ub = le-trans (le-of-eq (add-comm (u * b) b ∙ sym (suc-mul' u b))) (le-trans (mul-le-mul-right b (mod-lt (r * b + hi) D)) (le-of-eq (twice s b)));
+      ub = le-trans (le-of-eq (sym (suc-mul u b))) (le-trans (mul-le-mul-right b (mod-lt (r * b + hi) D)) (le-of-eq (twice s b)));
       sp = P;
-      ss = le-trans (le-of-eq (sym (mul-one s))) (mul-le-mul-left s (h .some));
+      ss = le-mul-of-pos-right s (h .some);
     }
-  where
-    suc-mul' : (u b : ℕ) → suc u * b ≡ b + u * b
-    suc-mul' u b = suc-mul u b ∙ add-comm (u * b) b
 
 pub root-pos : (m q : ℕ) → m < q * q → 0 < q
 root-pos m zero k = omega arith
@@ -53,9 +53,14 @@ root-pos m (suc q) k = omega arith
 
 -- (s * b + q) squared, and the operand, each written out; t is 2 * s * q + u
 square : (s b q : ℕ) → (s * b + q) * (s * b + q) ≡ s * s * (b * b) + 2 * (s * b * q) + q * q
-square s b q = rw (add-mul, mul-add, mul-add) (let e : q * (s * b) ≡ s * b * q = mul-comm q (s * b) in let f : s * b * (s * b) ≡ s * s * (b * b) = simp (mul-assoc, mul-comm, mul-left-comm) in omega arith)
+square s b q =
+    rw (add-mul, mul-add, mul-add)
+    (let e : q * (s * b) ≡ s * b * q = mul-comm q (s * b) in
+    let f : s * b * (s * b) ≡ s * s * (b * b) = mul-mul-mul-comm s b s b in
+    omega arith)
 
-operand : (s r b hi lo q u : ℕ) → q * (2 * s) + u ≡ r * b + hi → (s * s + r) * (b * b) + (hi * b + lo) ≡ s * s * (b * b) + 2 * (s * b * q) + u * b + lo
+operand : (s r b hi lo q u : ℕ) → q * (2 * s) + u ≡ r * b + hi
+    → (s * s + r) * (b * b) + (hi * b + lo) ≡ s * s * (b * b) + 2 * (s * b * q) + u * b + lo
 operand s r b hi lo q u e =
     let f : q * (2 * s) * b + u * b ≡ r * b * b + hi * b = sym (add-mul (q * (2 * s)) u b) ∙ ap (λ (z : ℕ). z * b) e ∙ add-mul (r * b) hi b in
     let g : q * (2 * s) * b ≡ 2 * (s * b * q) = simp (mul-assoc, mul-comm, mul-left-comm) in
@@ -69,13 +74,15 @@ pred-square e h =
     let p : e ≡ d + 1 = omega arith in
     subst (λ (z : ℕ). d * d + 2 * z ≡ z * z + 1) (sym p) (rw (add-mul, mul-add, mul-add) (omega arith))
 
-pub refined : (s r b hi lo : ℕ) (h : Ready s r b hi lo) (q u : ℕ) → q * (2 * s) + u ≡ r * b + hi → Bounds s r b q u → q * q ≤ u * b + lo → Refined s r b hi lo (s * b + q) (u * b + lo - q * q)
+pub refined : (s r b hi lo : ℕ) (h : Ready s r b hi lo) (q u : ℕ) → q * (2 * s) + u ≡ r * b + hi → Bounds s r b q u → q * q ≤ u * b + lo
+    → Refined s r b hi lo (s * b + q) (u * b + lo - q * q)
 refined s r b hi lo h q u e f g =
     let sq = square s b q in
     let op = operand s r b hi lo q u e in
     record { whole = omega arith; rem = omega arith; low = omega arith; high = omega arith }
 
-pub refined-less : (s r b hi lo : ℕ) (h : Ready s r b hi lo) (q u : ℕ) → q * (2 * s) + u ≡ r * b + hi → Bounds s r b q u → u * b + lo < q * q → Refined s r b hi lo (s * b + q - 1) (u * b + lo + (2 * (s * b + q) - 1) - q * q)
+pub refined-less : (s r b hi lo : ℕ) (h : Ready s r b hi lo) (q u : ℕ) → q * (2 * s) + u ≡ r * b + hi → Bounds s r b q u → u * b + lo < q * q
+    → Refined s r b hi lo (s * b + q - 1) (u * b + lo + (2 * (s * b + q) - 1) - q * q)
 refined-less s r b hi lo h q u e f g =
     let sq = square s b q in
     let op = operand s r b hi lo q u e in
@@ -113,7 +120,8 @@ pub chain : (a s₂ s₃ r₃ s₄ r₄ s₅ r₅ s r : ℕ) → s₂ * s₂ ≤
 chain a s₂ s₃ r₃ s₄ r₄ s₅ r₅ s r h₁ h₂ h₃ h₄ h₅ h₆ =
     let e₃ = onward a 1099511627776 8 s₂ (a / 70368744177664 - s₂ * s₂) s₃ r₃ (whole (a / 70368744177664) (s₂ * s₂) h₁) h₃ in
     let e₄ = onward a 67108864 128 s₃ r₃ s₄ r₄ e₃ h₄ in
-    let e₅ : s₅ * s₅ + r₅ ≡ a / 1 = onward a 1 8192 s₄ r₄ s₅ r₅ e₄ (subst (λ (x : ℕ). Refined s₄ r₄ 8192 (a / 8192 % 8192) (x % 8192) s₅ r₅) (sym (div-one a)) h₅) in
+    let e₅ : s₅ * s₅ + r₅ ≡ a / 1 =
+    onward a 1 8192 s₄ r₄ s₅ r₅ e₄ (subst (λ (x : ℕ). Refined s₄ r₄ 8192 (a / 8192 % 8192) (x % 8192) s₅ r₅) (sym (div-one a)) h₅) in
     record { whole = last a s₅ r₅ s r (e₅ ∙ div-one a) (h₆ .whole); rem = h₆ .rem; low = lower s₂ s₃ s₄ s₅ s h₂ (h₃ .low) (h₄ .low) (h₅ .low) (h₆ .low) }
   where
     whole : (t q : ℕ) → q ≤ t → q + (t - q) ≡ t

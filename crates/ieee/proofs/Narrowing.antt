@@ -1,27 +1,28 @@
--- An f64 m * 2 ^ k units of 2 ^ -1074 rounded to an f32: m / 2 ^ d rounded to a whole number, in units of 2 ^ (K - 149), with its pattern. Assumes nothing.
+-- An f64 of m * 2 ^ k units of 2 ^ -1074, rounded to an f32: m / 2 ^ d rounded to a whole number, in units of 2 ^ (K - 149), with its pattern.
+-- Each case that `narrow_bits` tells apart is a law, and so is its rounding with no branch.
+-- Assumes nothing.
 use mathlib.Core.Path.{_≡_, refl, sym, ap, _∙_, subst}
 use mathlib.Core.Bool.{Bool, true, false, not, cond}
 use mathlib.Core.Logic.{_⊎_, inl, inr}
 use Prim.Native.Nat.{ℕ, zero, suc, _+_, _-_, _*_, _/_, _%_, _^_, _≤_, _<_, compare, Ordering, Ordering·lt, Ordering·eq, Ordering·gt}
-use native.Mathlib.Nat.{le-trans, le-of-eq, le-of-lt, lt-of-lt-of-le, lt-of-le-of-lt, lt-irrefl, le-antisymm, eq-or-lt-of-le, zero-add, add-assoc, one-mul, mul-one, mul-comm, mul-assoc, mul-right-comm, mul-pos, mul-le-mul, mul-le-mul-right, mul-lt-mul-of-pos-right, le-div-iff-mul-le, div-lt-iff-lt-mul, div-eq-of-lt, mod-eq-of-lt, pow-succ'}
+use native.Mathlib.Nat.{le-trans, le-of-eq, lt-of-lt-of-le, eq-or-lt-of-le, mul-pos, mul-le-mul, mul-le-mul-right, le-div-iff-mul-le, div-lt-iff-lt-mul, div-eq-of-lt, mod-eq-of-lt}
 use native.Mathlib.Omega.{arith}
-use lib.IntN.{ℤ}
-use lib.Dec.{T, isLe, isEq, leb, eqb, ltb, leb→le, nleb→lt, eqb→eq, le→leb, eqb-refl, lit<, lit≤}
+use lib.Dec.{T, isLe, isEq, leb→le, nleb→lt, eqb→eq, lit<, lit≤}
 use lib.Pow.{pow-add, pow-pos, pow-mono, shl-lt}
-use lib.Ieee.{Float, nan, inf, fin, Format, binary32, binary64, prec, emax, low, up, down, size, nearest, units, round, hid, ones, top, ofBits}
+use lib.Ieee.{inf, Format, binary32, binary64, prec, low, size, nearest, units, round, ofBits}
 use lib.Ieee.Digits.{size-le}
-use lib.Ieee.Fits.{nearest-le, round-is, down-pos}
+use lib.Ieee.Fits.{eq→eqb, nearest-le, round-is}
 use lib.Ieee.Nearest.{closest, closest-same, nearest-ge}
-use lib.Ieee.Scale.{round-same}
-use lib.Ieee.Exact.{HasValue}
+use Rattle.ieee.specs.Numbers.{shift, size-gt}
 use Rattle.ieee.specs.Narrow.{narrowOf}
 use Rattle.ieee.specs.Inner.{Narrowed}
 use Rattle.ieee.specs.Patterns.{encode, encode-low, encode-carry, units-over}
-use Rattle.ieee.specs.RootUnits.{size-gt}
+use Rattle.ieee.specs.RootGain.{narrow-of-value}
 use Rattle.ieee.proofs.Cases.{low-value, mid-value}
 
 -- ---- `compare` from what is compared
-pub compare-is : (a b : ℕ) (p : Ordering) → (T (isLe (compare a b)) → a ≤ b) → (T (not (isLe (compare a b))) → b < a) → (T (isEq (compare a b)) → a ≡ b) → (a ≡ b → T (isEq (compare a b)))
+pub compare-is : (a b : ℕ) (p : Ordering) → (T (isLe (compare a b)) → a ≤ b) → (T (not (isLe (compare a b))) → b < a)
+    → (T (isEq (compare a b)) → a ≡ b) → (a ≡ b → T (isEq (compare a b)))
     → (p ≡ Ordering·lt → a < b) → (p ≡ Ordering·eq → a ≡ b) → (p ≡ Ordering·gt → b < a) → compare a b ≡ p
 compare-is a b p = go (compare a b) p
   where
@@ -37,7 +38,8 @@ compare-is a b p = go (compare a b) p
     cant : a ≤ b → b < a → ⊥
     cant h k = omega arith
 
-    go : (o p : Ordering) → (T (isLe o) → a ≤ b) → (T (not (isLe o)) → b < a) → (T (isEq o) → a ≡ b) → (a ≡ b → T (isEq o)) → (p ≡ Ordering·lt → a < b) → (p ≡ Ordering·eq → a ≡ b) → (p ≡ Ordering·gt → b < a) → o ≡ p
+    go : (o p : Ordering) → (T (isLe o) → a ≤ b) → (T (not (isLe o)) → b < a) → (T (isEq o) → a ≡ b) → (a ≡ b → T (isEq o)) → (p ≡ Ordering·lt → a < b)
+        → (p ≡ Ordering·eq → a ≡ b) → (p ≡ Ordering·gt → b < a) → o ≡ p
     go Ordering·lt Ordering·lt h k e n x y z = refl
     go Ordering·lt Ordering·eq h k e n x y z = absurd (n (y refl))
     go Ordering·lt Ordering·gt h k e n x y z = absurd (cant (h tt) (z refl))
@@ -48,11 +50,8 @@ compare-is a b p = go (compare a b) p
     go Ordering·gt Ordering·eq h k e n x y z = absurd (off' (k tt) (y refl))
     go Ordering·gt Ordering·gt h k e n x y z = refl
 
-eq-T : (a b : ℕ) → a ≡ b → T (eqb a b)
-eq-T a b e = subst (λ (x : ℕ). T (eqb a x)) e (eqb-refl a)
-
 pub compare-lt : (a b : ℕ) → a < b → compare a b ≡ Ordering·lt
-compare-lt a b h = compare-is a b Ordering·lt (leb→le a b) (nleb→lt a b) (eqb→eq a b) (eq-T a b) (λ _. h) (λ e. absurd (lt-eq e)) (λ e. absurd (lt-gt e))
+compare-lt a b h = compare-is a b Ordering·lt (leb→le a b) (nleb→lt a b) (eqb→eq a b) eq→eqb (λ _. h) (λ e. absurd (lt-eq e)) (λ e. absurd (lt-gt e))
   where
     lt-eq : Ordering·lt ≡ Ordering·eq → ⊥
     lt-eq e = let z : _≡_ {A = ℕ} 0 1 = cc in omega arith
@@ -61,7 +60,7 @@ compare-lt a b h = compare-is a b Ordering·lt (leb→le a b) (nleb→lt a b) (e
     lt-gt e = let z : _≡_ {A = ℕ} 0 1 = cc in omega arith
 
 pub compare-eq : (a b : ℕ) → a ≡ b → compare a b ≡ Ordering·eq
-compare-eq a b h = compare-is a b Ordering·eq (leb→le a b) (nleb→lt a b) (eqb→eq a b) (eq-T a b) (λ e. absurd (eq-lt e)) (λ _. h) (λ e. absurd (eq-gt e))
+compare-eq a b h = compare-is a b Ordering·eq (leb→le a b) (nleb→lt a b) (eqb→eq a b) eq→eqb (λ e. absurd (eq-lt e)) (λ _. h) (λ e. absurd (eq-gt e))
   where
     eq-lt : Ordering·eq ≡ Ordering·lt → ⊥
     eq-lt e = let z : _≡_ {A = ℕ} 0 1 = cc in omega arith
@@ -70,7 +69,7 @@ compare-eq a b h = compare-is a b Ordering·eq (leb→le a b) (nleb→lt a b) (e
     eq-gt e = let z : _≡_ {A = ℕ} 0 1 = cc in omega arith
 
 pub compare-gt : (a b : ℕ) → b < a → compare a b ≡ Ordering·gt
-compare-gt a b h = compare-is a b Ordering·gt (leb→le a b) (nleb→lt a b) (eqb→eq a b) (eq-T a b) (λ e. absurd (gt-lt e)) (λ e. absurd (gt-eq e)) (λ _. h)
+compare-gt a b h = compare-is a b Ordering·gt (leb→le a b) (nleb→lt a b) (eqb→eq a b) eq→eqb (λ e. absurd (gt-lt e)) (λ e. absurd (gt-eq e)) (λ _. h)
   where
     gt-lt : Ordering·gt ≡ Ordering·lt → ⊥
     gt-lt e = let z : _≡_ {A = ℕ} 0 1 = cc in omega arith
@@ -106,17 +105,12 @@ dropped p n den K D P hi lo = go lo
 -- ---- m * 2 ^ k units of 2 ^ -1074
 powers : (m k d K : ℕ) → k + 149 + d ≡ 1074 + K → m * 2 ^ k * 2 ^ 149 * 2 ^ d ≡ m * (2 ^ 1074 * 2 ^ K)
 powers m k d K e =
-    ap (λ (x : ℕ). x * 2 ^ d) (mul-assoc m (2 ^ k) (2 ^ 149) ∙ ap (λ (x : ℕ). m * x) (sym (pow-add 2 k 149)))
-    ∙ mul-assoc m (2 ^ (k + 149)) (2 ^ d)
-    ∙ ap (λ (x : ℕ). m * x) (sym (pow-add 2 (k + 149) d) ∙ ap (λ (x : ℕ). 2 ^ x) e ∙ pow-add 2 1074 K)
-
-gather : (m k : ℕ) → m * 2 ^ k * 2 ^ 149 ≡ m * 2 ^ (k + 149)
-gather m k = mul-assoc m (2 ^ k) (2 ^ 149) ∙ ap (λ (x : ℕ). m * x) (sym (pow-add 2 k 149))
+    ap (λ (x : ℕ). x * 2 ^ d) (shift m k 149) ∙ shift m (k + 149) d ∙ ap (λ (x : ℕ). m * x) (ap (λ (x : ℕ). 2 ^ x) e ∙ pow-add 2 1074 K)
 
 -- below 2 ^ (i + 1074), and at least that
 under : (m k i : ℕ) → m < 2 ^ 53 → k + 202 ≤ i + 1074 → m * 2 ^ k * 2 ^ 149 < 2 ^ i * 2 ^ 1074
 under m k i h l =
-    subst (λ (x : ℕ). x < 2 ^ i * 2 ^ 1074) (sym (gather m k))
+    subst (λ (x : ℕ). x < 2 ^ i * 2 ^ 1074) (sym (shift m k 149))
     (lt-of-lt-of-le (shl-lt 53 (k + 149) h) (le-trans (pow-mono (sum k i l)) (le-of-eq (pow-add 2 i 1074))))
   where
     sum : (k i : ℕ) → k + 202 ≤ i + 1074 → 53 + (k + 149) ≤ i + 1074
@@ -124,16 +118,19 @@ under m k i h l =
 
 over : (m k i : ℕ) → 2 ^ 52 ≤ m → i + 1074 ≤ k + 201 → 2 ^ i * 2 ^ 1074 ≤ m * 2 ^ k * 2 ^ 149
 over m k i h l =
-    subst (λ (x : ℕ). 2 ^ i * 2 ^ 1074 ≤ x) (sym (gather m k))
-    (le-trans (le-of-eq (sym (pow-add 2 i 1074))) (le-trans (pow-mono (sum k i l)) (le-trans (le-of-eq (pow-add 2 52 (k + 149))) (mul-le-mul-right (2 ^ (k + 149)) h))))
+    subst (λ (x : ℕ). 2 ^ i * 2 ^ 1074 ≤ x) (sym (shift m k 149))
+    (le-trans (le-of-eq (sym (pow-add 2 i 1074)))
+    (le-trans (pow-mono (sum k i l)) (le-trans (le-of-eq (pow-add 2 52 (k + 149))) (mul-le-mul-right (2 ^ (k + 149)) h))))
   where
     sum : (k i : ℕ) → i + 1074 ≤ k + 201 → i + 1074 ≤ 52 + (k + 149)
     sum k i l = omega arith
 
-pub round-normal : (s : Bool) (m k : ℕ) → 2 ^ 52 ≤ m → m < 2 ^ 53 → 896 ≤ k → round binary32 s (m * 2 ^ k) (2 ^ 1074) ≡ units binary32 s (closest m (2 ^ 29)) (k - 896)
+pub round-normal : (s : Bool) (m k : ℕ) → 2 ^ 52 ≤ m → m < 2 ^ 53 → 896 ≤ k
+    → round binary32 s (m * 2 ^ k) (2 ^ 1074) ≡ units binary32 s (closest m (2 ^ 29)) (k - 896)
 round-normal s m k lo hi K =
     round-at binary32 s (m * 2 ^ k) (2 ^ 1074) m (2 ^ 29) (k - 896) (pow-pos 1074) (pow-pos 29)
-    (dropped 24 (m * 2 ^ k * 2 ^ 149) (2 ^ 1074) (k - 896) (pow-pos 1074) (lit< tt) (under m k (24 + (k - 896)) hi (a k K)) (inr (over m k (23 + (k - 896)) lo (b k K))))
+    (dropped 24 (m * 2 ^ k * 2 ^ 149) (2 ^ 1074) (k - 896) (pow-pos 1074) (lit< tt) (under m k (24 + (k - 896)) hi (a k K))
+    (inr (over m k (23 + (k - 896)) lo (b k K))))
     (powers m k 29 (k - 896) (c k K))
   where
     a : (k : ℕ) → 896 ≤ k → k + 202 ≤ 24 + (k - 896) + 1074
@@ -179,14 +176,6 @@ round-nothing s m k hi K =
     twice : (m : ℕ) → m < 9007199254740992 → m * 2 < 18014398509481984
     twice m h = omega arith
 
--- ---- `narrowOf` by the value
-pub narrow-of-value : (x : Float) (s : Bool) (a : ℕ) → HasValue x s a (2 ^ 1074) → narrowOf x ≡ round binary32 s a (2 ^ 1074)
-unfolding narrowOf
-narrow-of-value nan s a h = absurd h
-narrow-of-value (inf t) s a h = absurd h
-narrow-of-value (fin t m e) s a h =
-    ap (λ (b : Bool). round binary32 b (m * up e) (down e)) (h .0) ∙ round-same binary32 s (m * up e) (down e) a (2 ^ 1074) (down-pos e) (pow-pos 1074) (h .1)
-
 -- ---- the cases of the code
 abbrev E : ℕ → ℕ
 E b = b / 4503599627370496
@@ -200,8 +189,10 @@ m-lo b = omega arith
 m-hi : (b : ℕ) → M b < 9007199254740992
 m-hi b = omega arith
 
-narrow-mid : (s : Bool) (b : ℕ) → 0 < E b → b < 9218868437227405312 → narrowOf (ofBits binary64 (cond s 9223372036854775808 0 + b)) ≡ round binary32 s (M b * 2 ^ (E b - 1)) (2 ^ 1074)
-narrow-mid s b p h = narrow-of-value (ofBits binary64 (cond s 9223372036854775808 0 + b)) s (M b * 2 ^ (E b - 1)) (mid-value s b (λ e. no (E b) p e) h)
+narrow-mid : (s : Bool) (b : ℕ) → 0 < E b → b < 9218868437227405312
+    → narrowOf (ofBits binary64 (cond s 9223372036854775808 0 + b)) ≡ round binary32 s (M b * 2 ^ (E b - 1)) (2 ^ 1074)
+narrow-mid s b p h =
+    narrow-of-value (ofBits binary64 (cond s 9223372036854775808 0 + b)) s (M b * 2 ^ (E b - 1)) (2 ^ 1074) (pow-pos 1074) (mid-value s b (λ e. no (E b) p e) h)
   where
     no : (e : ℕ) → 0 < e → e ≡ 0 → ⊥
     no e p z = omega arith
@@ -223,7 +214,7 @@ narrow-zero b h = record { low = lit≤ tt; is = λ s. encode-low binary32 s 0 (
 
     go : (s : Bool) (e : ℕ) → E b ≡ e → narrowOf (ofBits binary64 (cond s 9223372036854775808 0 + b)) ≡ units binary32 s 0 0
     go s zero z =
-        narrow-of-value (ofBits binary64 (cond s 9223372036854775808 0 + b)) s (b % 4503599627370496 * 2 ^ 0) (low-value s b z)
+        narrow-of-value (ofBits binary64 (cond s 9223372036854775808 0 + b)) s (b % 4503599627370496 * 2 ^ 0) (2 ^ 1074) (pow-pos 1074) (low-value s b z)
         ∙ round-nothing s (b % 4503599627370496) 0 (small b) (lit< tt)
     go s (suc k) z = narrow-mid s b (pos (E b) k z) (below b h) ∙ round-nothing s (M b) (E b - 1) (m-hi b) (k-lt (E b) k h z)
 
@@ -306,15 +297,21 @@ narrow-sub b lo hi = record { low = le-trans Q (lit≤ tt); is = λ s. go s (eq-
         ∙ round-subnormal s (M b) (E b - 1) (m-hi b) (k (E b) hi)
         ∙ ap (λ (d : ℕ). units binary32 s (closest (M b) (2 ^ d)) 0) (same (E b) lo)
 
-    go : (s : Bool) → (closest (M b) (2 ^ (926 - E b)) ≡ 8388608) ⊎ (closest (M b) (2 ^ (926 - E b)) < 8388608) → ofBits binary32 (cond s 2147483648 0 + closest (M b) (2 ^ (926 - E b))) ≡ units binary32 s (closest (M b) (2 ^ (926 - E b))) 0
-    go s (inl z) = subst (λ (q : ℕ). ofBits binary32 (cond s 2147483648 0 + q) ≡ units binary32 s q 0) (sym z) (encode binary32 s 0 8388608 (lit≤ tt) (lit< tt) (lit< tt))
+    go : (s : Bool) → (closest (M b) (2 ^ (926 - E b)) ≡ 8388608) ⊎ (closest (M b) (2 ^ (926 - E b)) < 8388608)
+        → ofBits binary32 (cond s 2147483648 0 + closest (M b) (2 ^ (926 - E b))) ≡ units binary32 s (closest (M b) (2 ^ (926 - E b))) 0
+    go s (inl z) =
+        subst (λ (q : ℕ). ofBits binary32 (cond s 2147483648 0 + q) ≡ units binary32 s q 0) (sym z) (encode binary32 s 0 8388608 (lit≤ tt) (lit< tt) (lit< tt))
     go s (inr l) = encode-low binary32 s (closest (M b) (2 ^ (926 - E b))) l (lit< tt)
 
 over-top : (s : Bool) → units binary32 s 16777216 253 ≡ inf s
 over-top s = units-over binary32 s 16777216 253 (lit≤ tt)
 
 pub narrow-normal : (b : ℕ) → 897 ≤ E b → E b ≤ 1150 → Narrowed b ((E b - 897) * 8388608 + closest (M b) 536870912)
-narrow-normal b lo hi = record { low = fine (E b) q hi Q; is = λ s. go s q (E b - 897) refl (q-lo (M b) (m-lo b)) (eq-or-lt-of-le Q) (top-k (E b) hi) ∙ sym (from s) }
+narrow-normal b lo hi =
+    record {
+      low = fine (E b) q hi Q;
+      is = λ s. go s q (E b - 897) (q-lo (M b) (m-lo b)) (eq-or-lt-of-le Q) (top-k (E b) hi) ∙ sym (from s);
+    }
   where
     q : ℕ
     q = closest (M b) 536870912
@@ -352,19 +349,26 @@ narrow-normal b lo hi = record { low = fine (E b) q hi Q; is = λ s. go s q (E b
     field' : (K : ℕ) → K < 253 → suc (suc K) < 255
     field' K h = omega arith
 
-    go : (s : Bool) (q K : ℕ) → q ≡ q → 8388608 ≤ q → (q ≡ 16777216) ⊎ (q < 16777216) → K ≤ 253 → ofBits binary32 (cond s 2147483648 0 + (K * 8388608 + q)) ≡ units binary32 s q K
-    go s q K _ l (inr u) h = encode binary32 s K q l u (field K h)
-    go s q K _ l (inl z) h = subst (λ (q : ℕ). ofBits binary32 (cond s 2147483648 0 + (K * 8388608 + q)) ≡ units binary32 s q K) (sym z) (carried (eq-or-lt-of-le h))
+    go : (s : Bool) (q K : ℕ) → 8388608 ≤ q → (q ≡ 16777216) ⊎ (q < 16777216) → K ≤ 253
+        → ofBits binary32 (cond s 2147483648 0 + (K * 8388608 + q)) ≡ units binary32 s q K
+    go s q K l (inr u) h = encode binary32 s K q l u (field K h)
+    go s q K l (inl z) h =
+        subst (λ (q : ℕ). ofBits binary32 (cond s 2147483648 0 + (K * 8388608 + q)) ≡ units binary32 s q K) (sym z) (carried (eq-or-lt-of-le h))
       where
         carried : (K ≡ 253) ⊎ (K < 253) → ofBits binary32 (cond s 2147483648 0 + (K * 8388608 + 16777216)) ≡ units binary32 s 16777216 K
-        carried (inl e) = subst (λ (K : ℕ). ofBits binary32 (cond s 2147483648 0 + (K * 8388608 + 16777216)) ≡ units binary32 s 16777216 K) (sym e) (inf-bits s ∙ sym (over-top s))
+        carried (inl e) =
+            subst (λ (K : ℕ). ofBits binary32 (cond s 2147483648 0 + (K * 8388608 + 16777216)) ≡ units binary32 s 16777216 K) (sym e)
+            (inf-bits s ∙ sym (over-top s))
         carried (inr v) = encode-carry binary32 s K (field' K v)
 
 -- ---- m / 2 ^ 29 rounded with no branch
 pub closest-29 : (m : ℕ) → (m + 268435455 + m / 536870912 % 2) / 536870912 ≡ closest m 536870912
-closest-29 m = go (compare (m % 536870912 * 2) 536870912) (leb→le (m % 536870912 * 2) 536870912) (nleb→lt (m % 536870912 * 2) 536870912) (eqb→eq (m % 536870912 * 2) 536870912) (eq-T (m % 536870912 * 2) 536870912)
+closest-29 m =
+    go (compare (m % 536870912 * 2) 536870912) (leb→le (m % 536870912 * 2) 536870912) (nleb→lt (m % 536870912 * 2) 536870912)
+    (eqb→eq (m % 536870912 * 2) 536870912) eq→eqb
   where
-    go : (o : Ordering) → (T (isLe o) → m % 536870912 * 2 ≤ 536870912) → (T (not (isLe o)) → 536870912 < m % 536870912 * 2) → (T (isEq o) → m % 536870912 * 2 ≡ 536870912) → (m % 536870912 * 2 ≡ 536870912 → T (isEq o))
+    go : (o : Ordering) → (T (isLe o) → m % 536870912 * 2 ≤ 536870912) → (T (not (isLe o)) → 536870912 < m % 536870912 * 2)
+        → (T (isEq o) → m % 536870912 * 2 ≡ 536870912) → (m % 536870912 * 2 ≡ 536870912 → T (isEq o))
         → (m + 268435455 + m / 536870912 % 2) / 536870912 ≡ nearest (m / 536870912) o
     go Ordering·lt h k e n = let a = h tt in let b : m % 536870912 * 2 ≡ 536870912 → ⊥ = n in omega arith
     go Ordering·eq h k e n = let a = e tt in omega arith

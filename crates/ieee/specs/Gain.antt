@@ -1,91 +1,29 @@
--- Amplifying by a power of two, through one rounding after another. The values of a computation on whole numbers are whole numbers of a
--- unit, and a rounding that drops only digits below the unit, and overflows neither here nor amplified, takes the factor along. `Level`
--- says what is known of a value at a place of the computation; `roomy` is the one test to be made there, and it computes.
+-- Amplifying by a power of two, through one rounding after another: a rounding that drops only digits below the unit of its level, and
+-- overflows neither here nor amplified, takes the factor along. So products and sums of values at a level are at a level again.
 -- Assumes nothing.
 use mathlib.Core.Path.{_≡_, refl, sym, ap, _∙_, subst}
-use mathlib.Core.Logic.{_⊎_, inl, inr}
-use mathlib.Core.Bool.{Bool, true, false, not, _&&_, Bool·beq, cond}
-use Prim.Native.Nat.{ℕ, zero, suc, _+_, _-_, _*_, _/_, _%_, _^_, _<_, _≤_, zero-le}
-use native.Mathlib.Nat.{add-le-add, le-refl, le-trans, le-of-eq, le-of-suc-le-suc, lt-of-lt-of-le, lt-of-le-of-lt, lt-of-not-le, not-le-of-lt, zero-lt-suc, mul-pos, mul-comm, mul-assoc, mul-left-comm, mul-right-comm, mul-mul-mul-comm, one-mul, mul-one, zero-mul, add-mul, mul-sub, mul-le-mul, mul-le-mul-right, mul-le-mul-left, mul-lt-mul-of-pos-right, le-of-mul-le-mul-right, lt-of-mul-lt-mul-right, le-div-iff-mul-le, eq-of-mul-eq-mul-right}
+use mathlib.Core.Logic.{inl, inr}
+use mathlib.Core.Bool.{Bool, true, false, not, _&&_}
+use Prim.Native.Nat.{ℕ, zero, suc, _+_, _-_, _*_, _/_, _^_, _<_, _≤_, zero-le}
+use native.Mathlib.Nat.{add-le-add, le-refl, le-trans, le-of-eq, lt-of-lt-of-le, lt-of-le-of-lt, lt-of-not-le, not-le-of-lt, zero-lt-suc, mul-pos, mul-comm, mul-right-comm, one-mul, mul-one, zero-mul, add-mul, mul-le-mul, mul-le-mul-right, mul-le-mul-left, le-of-mul-le-mul-right, le-div-iff-mul-le}
 use native.Mathlib.Omega.{arith}
 use lib.IntN.{ℤ, pos, negsuc}
-use lib.Dec.{T, leb, ltb, eqb, leb→le, le→leb, ltb→lt, lt→ltb, nltb→le, eqb→eq}
-use lib.Pow.{pow-add, pow-pos, pow-mono, pow-lt}
-use lib.Ieee.{Float, nan, inf, fin, Format, prec, emax, low, up, down, unlike, size, round, neg, sum, add, sub, mul, le, fits, ofBits, toBits}
-use lib.Ieee.Digits.{size-lt, back}
-use lib.Ieee.Fits.{up-pos, down-pos, mul-fits, and-i, and-r, two as digits-two, two-le-pos}
-use lib.Ieee.Bits.{ofBits-toBits}
+use lib.Dec.{T, leb, ltb, eqb, leb→le, le→leb, ltb→lt, lt→ltb, eqb→eq}
+use lib.Pow.{pow-add, pow-pos, pow-mono, pow-lt, shl-lt}
+use lib.Ieee.{Float, nan, inf, fin, Format, prec, emax, low, up, down, unlike, size, round, neg, add, sub, mul, le, fits}
+use lib.Ieee.Digits.{back}
+use lib.Ieee.Fits.{up-pos, down-pos, mul-fits, and-i, two as digits-two, two-le-pos}
 use lib.Ieee.Exact.{HasValue, round-exact}
-use lib.Ieee.Nearest.{div-same}
 use lib.Ieee.Order.{round-mono, drop, kept}
 use lib.Ieee.Positive.{positive, positive-finite, positive-of-value, between, values-of-le, first-pos}
-use lib.Ieee.Scale.{grid, overflow, round-same, round-val, round-under, grid-scale, normal-of-fraction}
-use Rattle.ieee.specs.Signs.{round-neg}
-use Rattle.ieee.specs.Zeros.{low-fits}
+use lib.Ieee.Scale.{grid, overflow, round-val, round-under, grid-scale, normal-of-fraction}
+use Rattle.ieee.specs.Numbers.{three, split, le-multiple, shift, powers, fine, grows, size-gt}
+use Rattle.ieee.specs.Signs.{unlike-false, round-neg}
+use Rattle.ieee.specs.Values.{ratios, same-value, to-finer, to-coarser, neg-value, value-unique, zero-down, few-digits, in-units, digits, mul-value, shape, add-value}
 use Rattle.ieee.specs.Times.{Times}
+use Rattle.ieee.specs.Levels.{Level, Scaled, roomy, product, many, finer, wholes, constant, grain, within, two, Whole}
 
--- What is known of a value, and of the same value where every sample was multiplied by 2 ^ k: the first is a whole number of units of
--- 2 ^ -unit, at most most * 2 ^ digits of them, and the second is the first times 2 ^ (power * k).
-pub record Level : Type 0 where
-  pub unit : ℕ
-  pub most : ℕ
-  pub digits : ℕ
-  pub power : ℕ
-
-pub record Scaled (l : Level) (k : ℕ) (x y : Float) : Type 0 where
-  pub sign : Bool
-  pub count : ℕ
-  pub few : count ≤ l .most * 2 ^ l .digits
-  pub here : HasValue x sign count (2 ^ l .unit)
-  pub there : HasValue y sign (count * 2 ^ (l .power * k)) (2 ^ l .unit)
-
--- The format f rounds numbers of this level to whole units again, and does not overflow, for every gain up to 2 ^ top. The bound itself is a
--- value of the format, so that no rounding goes beyond it.
-abbrev pub roomy : Format → ℕ → Level → Bool
-roomy f top l = leb (l .unit) (low f) && ltb (l .most) (2 ^ prec f) && ltb (l .most * 2 ^ (l .digits + l .power * top)) (2 ^ (suc (emax f) + l .unit))
-
--- ---- the levels of results
--- a product
-abbrev pub product : Level → Level → Level
-product l m = record { unit = l .unit + m .unit; most = l .most * m .most; digits = l .digits + m .digits; power = l .power + m .power }
-
--- a sum of n values
-abbrev pub many : ℕ → Level → Level
-many n l = record { unit = l .unit; most = n * l .most; digits = l .digits; power = l .power }
-
--- the same value, in units 2 ^ v times as fine
-abbrev pub finer : ℕ → Level → Level
-finer v l = record { unit = l .unit + v; most = l .most; digits = l .digits + v; power = l .power }
-
--- whole numbers of at most 2 ^ j
-abbrev pub wholes : ℕ → Level
-wholes j = record { unit = 0; most = 1; digits = j; power = 1 }
-
--- a constant of n units of 2 ^ -u, which no gain changes
-abbrev pub constant : ℕ → ℕ → Level
-constant u n = record { unit = u; most = n; digits = 0; power = 0 }
-
--- every value of the level l is one of the level m
-abbrev pub within : Level → Level → Bool
-within l m = eqb (l .unit) (m .unit) && eqb (l .power) (m .power) && leb (l .most * 2 ^ l .digits) (m .most * 2 ^ m .digits)
-
--- ---- values: as another fraction of the same size, and with the other sign
-ratios : (x p q r s y : ℕ) → 0 < y → x * p ≡ q * y → x * r ≡ s * y → q * r ≡ s * p
-ratios x p q r s y Y h k =
-    eq-of-mul-eq-mul-right y Y (q * r) (s * p)
-    (mul-right-comm q r y ∙ ap (λ (n : ℕ). n * r) (sym h) ∙ mul-right-comm x p r ∙ ap (λ (n : ℕ). n * p) k ∙ mul-right-comm s y p)
-
-same-value : (x : Float) (s : Bool) (a c b d : ℕ) → 0 < c → b * c ≡ a * d → HasValue x s a c → HasValue x s b d
-same-value nan s a c b d C e h = h
-same-value (inf t) s a c b d C e h = h
-same-value (fin t m z) s a c b d C e h = (h .0, ratios a (down z) (m * up z) d b c C (sym (h .1)) (sym e))
-
-neg-value : (x : Float) (s : Bool) (a c : ℕ) → HasValue x s a c → HasValue (neg x) (not s) a c
-unfolding neg
-neg-value nan s a c h = h
-neg-value (inf t) s a c h = h
-neg-value (fin t m e) s a c h = (ap not (h .0), h .1)
-
+-- ---- a change of sign
 pub neg-scaled : (k : ℕ) (l : Level) (x y : Float) → Scaled l k x y → Scaled l k (neg x) (neg y)
 neg-scaled k l x y h =
     record {
@@ -96,50 +34,21 @@ neg-scaled k l x y h =
       there = neg-value y (h .sign) (h .count * 2 ^ (l .power * k)) (2 ^ l .unit) (h .there);
     }
 
--- ---- numbers
-shift : (n p d : ℕ) → n * 2 ^ p * 2 ^ d ≡ n * 2 ^ (p + d)
-shift n p d = mul-assoc n (2 ^ p) (2 ^ d) ∙ ap (λ (z : ℕ). n * z) (sym (pow-add 2 p d))
-
-grows : (n p : ℕ) → n ≤ n * 2 ^ p
-grows n p = le-trans (le-of-eq (sym (mul-one n))) (mul-le-mul-left n (pow-pos p))
-
-split : (n m : ℕ) → (n < m) ⊎ (m ≤ n)
-split n m = go (ltb n m) (ltb→lt n m) (nltb→le n m)
-  where
-    go : (b : Bool) → (T b → n < m) → (T (not b) → m ≤ n) → (n < m) ⊎ (m ≤ n)
-    go true x y = inl (x tt)
-    go false x y = inr (y tt)
-
-size-gt : (n j : ℕ) → 2 ^ j ≤ n → j < size n
-size-gt n j h = lt-of-not-le (λ (g : size n ≤ j). not-le-of-lt (lt-of-lt-of-le (size-lt n) (pow-mono g)) h)
-
 -- ---- whole units of 2 ^ -u, where u is no finer than the format: a unit is 2 ^ (low - u) smallest values
 module _ (f : Format) (u : ℕ) (U : u ≤ low f) where
-  fine : (n : ℕ) → n * 2 ^ low f ≡ n * 2 ^ (low f - u) * 2 ^ u
-  fine n = ap (λ (z : ℕ). n * 2 ^ z) (sym (back (low f) u U)) ∙ sym (shift n (low f - u) u)
-
-  below : (n : ℕ) → n < 2 ^ (suc (emax f) + u) → n * 2 ^ (low f - u) < overflow f
-  below n h =
-      subst (λ (z : ℕ). n * 2 ^ (low f - u) < z) (sym (pow-add 2 (suc (emax f) + u) (low f - u)) ∙ ap (λ (z : ℕ). 2 ^ z) (level (suc (emax f)) u (low f) U))
-      (mul-lt-mul-of-pos-right h (pow-pos (low f - u)))
+  pub no-overflow : (n : ℕ) → n < 2 ^ (suc (emax f) + u) → n * 2 ^ (low f - u) < overflow f
+  no-overflow n h = subst (λ (z : ℕ). n * 2 ^ (low f - u) < 2 ^ z) (level (suc (emax f)) u (low f) U) (shl-lt (suc (emax f) + u) (low f - u) h)
     where
       level : (e u l : ℕ) → u ≤ l → e + u + (l - u) ≡ l + e
       level e u l h = omega arith
 
-  exact : (s : Bool) (n q j : ℕ) → q < 2 ^ prec f → n < 2 ^ (suc (emax f) + u) → n * 2 ^ (low f - u) ≡ q * 2 ^ j
+  -- a number of units that has few digits is rounded to itself
+  pub exact : (s : Bool) (n q j : ℕ) → q < 2 ^ prec f → n < 2 ^ (suc (emax f) + u) → n * 2 ^ (low f - u) ≡ q * 2 ^ j
       → HasValue (round f s n (2 ^ u)) s n (2 ^ u)
-  exact s n q j Q B e = round-exact f s n (2 ^ u) q j (pow-pos u) Q (subst (λ (z : ℕ). z < overflow f) e (below n B)) (fine n ∙ ap (λ (z : ℕ). z * 2 ^ u) e)
-
-  -- a value of w * 2 ^ (low - u) smallest values is one of w units
-  coarse : (x : Float) (s : Bool) (w : ℕ) → HasValue x s (w * 2 ^ (low f - u)) (2 ^ low f) → HasValue x s w (2 ^ u)
-  coarse x s w h = same-value x s (w * 2 ^ (low f - u)) (2 ^ low f) w (2 ^ u) (pow-pos (low f)) (fine w) h
+  exact s n q j Q B e =
+      round-exact f s n (2 ^ u) q j (pow-pos u) Q (subst (λ (z : ℕ). z < overflow f) e (no-overflow n B)) (fine n u (low f) U ∙ ap (λ (z : ℕ). z * 2 ^ u) e)
 
 -- ---- what `roomy` says
-three : (a b c : Bool) → T (a && b && c) → T a × T b × T c
-three true true c t = (tt, tt, t)
-three true false c t = absurd t
-three false b c t = absurd t
-
 pub room : (f : Format) (top : ℕ) (l : Level) → T (roomy f top l)
     → (l .unit ≤ low f) × (l .most < 2 ^ prec f) × (l .most * 2 ^ (l .digits + l .power * top) < 2 ^ (suc (emax f) + l .unit))
 room f top l R =
@@ -147,7 +56,8 @@ room f top l R =
     (leb→le _ _ (t .0), ltb→lt _ _ (t .1), ltb→lt _ _ (t .2))
 
 -- what is at most a roomy level, in the same units, is roomy
-lesser : (f : Format) (top m n u d p : ℕ) → m ≤ n → T (roomy f top (record { unit = u; most = n; digits = d; power = p })) → T (roomy f top (record { unit = u; most = m; digits = d; power = p }))
+lesser : (f : Format) (top m n u d p : ℕ) → m ≤ n → T (roomy f top (record { unit = u; most = n; digits = d; power = p }))
+    → T (roomy f top (record { unit = u; most = m; digits = d; power = p }))
 lesser f top m n u d p M R =
     let r = room f top (record { unit = u; most = n; digits = d; power = p }) R in
     and-i (leb u (low f) && ltb m (2 ^ prec f)) (ltb (m * 2 ^ (d + p * top)) (2 ^ (suc (emax f) + u)))
@@ -159,10 +69,10 @@ pub roomy-fewer : (f : Format) (top m n : ℕ) (l : Level) → m ≤ n → T (ro
 roomy-fewer f top m n l M R = lesser f top (m * l .most) (n * l .most) (l .unit) (l .digits) (l .power) (mul-le-mul-right (l .most) M) R
 
 pub roomy-one : (f : Format) (top n : ℕ) (l : Level) → 1 ≤ n → T (roomy f top (many n l)) → T (roomy f top l)
-roomy-one f top n l N R = lesser f top (l .most) (n * l .most) (l .unit) (l .digits) (l .power) (le-trans (le-of-eq (sym (one-mul (l .most)))) (mul-le-mul-right (l .most) N)) R
+roomy-one f top n l N R = lesser f top (l .most) (n * l .most) (l .unit) (l .digits) (l .power) (le-multiple n (l .most) N) R
 
 -- no gain takes a number of the level beyond the format
-in-range : (f : Format) (top k : ℕ) (l : Level) (n : ℕ) → k ≤ top → T (roomy f top l) → n ≤ l .most * 2 ^ l .digits
+pub in-range : (f : Format) (top k : ℕ) (l : Level) (n : ℕ) → k ≤ top → T (roomy f top l) → n ≤ l .most * 2 ^ l .digits
     → n * 2 ^ (l .power * k) < 2 ^ (suc (emax f) + l .unit)
 in-range f top k l n K R N =
     lt-of-le-of-lt (mul-le-mul N (pow-mono (mul-le-mul-left (l .power) K)))
@@ -208,32 +118,34 @@ module _ (f : Format) (top k : ℕ) (l : Level) (n : ℕ) (K : k ≤ top) (R : T
       let top-value : HasValue t false M c =
       exact f u U false M (l .most) (l .digits + d) (room f top l R .1) (end M (le-refl M)) (shift (l .most) (l .digits) d) in
       let hi : T (positive t) = positive-of-value t M c top-value (le-trans N1 N) in
-      let lo : T (positive o) = positive-of-value o 1 c (exact f u U false 1 1 d (one-lt (prec f) (digits-two f)) (end 1 (le-trans N1 N)) refl) (zero-lt-suc 0) in
+      let lo : T (positive o) =
+      positive-of-value o 1 c (exact f u U false 1 1 d (one-lt (prec f) (digits-two f)) (end 1 (le-trans N1 N)) refl) (zero-lt-suc 0) in
       let z≤ : T (le z t) = round-mono f n c M c C C (mul-le-mul-right c N) in
       let P : T (positive z) = between o z t lo hi (round-mono f 1 c n c C C (mul-le-mul-right c N1)) z≤ in
       -- whole units
       let a = n * 2 ^ low f in
       let at : 2 ^ (prec f + d) ≤ a / c =
-      le-div-iff-mul-le C .1 (le-trans (mul-le-mul-right c (le-trans (le-of-eq (pow-add 2 (prec f) d)) (mul-le-mul-right (2 ^ d) h))) (le-of-eq (sym (fine f u U n)))) in
+      le-div-iff-mul-le C .1 (le-trans (mul-le-mul-right c (le-trans (le-of-eq (pow-add 2 (prec f) d)) (mul-le-mul-right (2 ^ d) h)))
+      (le-of-eq (sym (fine n u (low f) U)))) in
       let j = drop (prec f) a c in
       let J : d ≤ j = take-off (prec f) d (size (a / c)) (size-gt (a / c) (prec f + d) at) in
       let w = kept (prec f) a c * 2 ^ (j - d) in
       let G : grid f n c ≡ w * 2 ^ d = sym (shift (kept (prec f) a c) (j - d) d ∙ ap (λ (x : ℕ). kept (prec f) a c * 2 ^ x) (back j d J)) in
       let here : HasValue z false w c =
-      coarse f u U z false w (subst (λ (g : ℕ). HasValue z false g (2 ^ low f)) G (round-val f n c (round-under f n c (positive-finite z P)))) in
+      to-coarser z false w u (low f) U (subst (λ (g : ℕ). HasValue z false g (2 ^ low f)) G (round-val f n c (round-under f n c (positive-finite z P)))) in
       let W : w ≤ M = le-of-mul-le-mul-right (values-of-le z t w c M c P hi here top-value z≤) C in
       -- the same, amplified
       let normal : 2 ^ (prec f - 1) * c ≤ a = mul-le-mul (le-trans (pow-mono (pred-le (prec f))) h) (pow-mono U) in
       let E : grid f (n * 2 ^ p) c ≡ w * 2 ^ p * 2 ^ d =
       grid-scale f n c p C (normal-of-fraction f n c C normal) ∙ ap (λ (g : ℕ). g * 2 ^ p) G ∙ mul-right-comm w (2 ^ d) (2 ^ p) in
-      let O : w * 2 ^ p * 2 ^ d < overflow f = below f u U (w * 2 ^ p) (in-range f top k l w K R W) in
+      let O : w * 2 ^ p * 2 ^ d < overflow f = no-overflow f u U (w * 2 ^ p) (in-range f top k l w K R W) in
       let y = round f false (n * 2 ^ p) c in
       record {
         sign = false;
         count = w;
         few = W;
         here = here;
-        there = coarse f u U y false (w * 2 ^ p)
+        there = to-coarser y false (w * 2 ^ p) u (low f) U
             (subst (λ (g : ℕ). HasValue y false g (2 ^ low f)) E (round-val f (n * 2 ^ p) c (subst (λ (g : ℕ). g < overflow f) (sym E) O)));
       }
     where
@@ -257,103 +169,26 @@ rounded f top k l true n K R N =
     (neg-scaled k l _ _ (plain f top k l n K R N))
 
 -- ---- the product
-mul-value : (f : Format) (x u : Float) (s t : Bool) (a c b d : ℕ) → 0 < c → 0 < d → HasValue x s a c → HasValue u t b d
-    → mul f x u ≡ round f (unlike s t) (a * b) (c * d)
-unfolding mul
-mul-value f nan u s t a c b d C D h k = absurd h
-mul-value f (inf z) u s t a c b d C D h k = absurd h
-mul-value f (fin z m e) nan s t a c b d C D h k = absurd k
-mul-value f (fin z m e) (inf y) s t a c b d C D h k = absurd k
-mul-value f (fin z m e) (fin y n i) s t a c b d C D h k =
-    (λ j. round f (unlike (h .0 j) (k .0 j)) (m * up e * (n * up i)) (down e * down i))
-    ∙ round-same f (unlike s t) (m * up e * (n * up i)) (down e * down i) (a * b) (c * d) (mul-pos (down-pos e) (down-pos i)) (mul-pos C D)
-    (mul-mul-mul-comm (m * up e) (n * up i) c d ∙ (λ j. h .1 j * k .1 j) ∙ mul-mul-mul-comm a (down e) b (down i))
-
--- two powers of two in a product
-powers : (a i b j : ℕ) → a * 2 ^ i * (b * 2 ^ j) ≡ a * b * 2 ^ (i + j)
-powers a i b j = mul-mul-mul-comm a (2 ^ i) b (2 ^ j) ∙ ap (λ (z : ℕ). a * b * z) (sym (pow-add 2 i j))
+mul-units : (f : Format) (x u : Float) (s t : Bool) (a i b j : ℕ) → HasValue x s a (2 ^ i) → HasValue u t b (2 ^ j)
+    → mul f x u ≡ round f (unlike s t) (a * b) (2 ^ (i + j))
+mul-units f x u s t a i b j p q =
+    mul-value f x u s t a (2 ^ i) b (2 ^ j) (pow-pos i) (pow-pos j) p q ∙ ap (round f (unlike s t) (a * b)) (sym (pow-add 2 i j))
 
 pub times-scaled : (f : Format) (top k : ℕ) (l m : Level) (x y u v : Float) → k ≤ top → T (roomy f top (product l m))
     → Scaled l k x y → Scaled m k u v → Scaled (product l m) k (mul f x u) (mul f y v)
 times-scaled f top k l m x y u v K R h g =
     let a = h .count in
     let b = g .count in
-    let s = unlike (h .sign) (g .sign) in
     let i = l .power * k in
     let j = m .power * k in
-    let is : (x u : Float) (a b : ℕ) → HasValue x (h .sign) a (2 ^ l .unit) → HasValue u (g .sign) b (2 ^ m .unit) → mul f x u ≡ round f s (a * b) (2 ^ (l .unit + m .unit)) = λ x u a b p q.
-    mul-value f x u (h .sign) (g .sign) a (2 ^ l .unit) b (2 ^ m .unit) (pow-pos (l .unit)) (pow-pos (m .unit)) p q
-    ∙ ap (round f s (a * b)) (sym (pow-add 2 (l .unit) (m .unit))) in
-    let e : a * 2 ^ i * (b * 2 ^ j) ≡ a * b * 2 ^ ((l .power + m .power) * k) = powers a i b j ∙ ap (λ (z : ℕ). a * b * 2 ^ z) (sym (add-mul (l .power) (m .power) k)) in
-    let N : a * b ≤ l .most * m .most * 2 ^ (l .digits + m .digits) = le-trans (mul-le-mul (h .few) (g .few)) (le-of-eq (powers (l .most) (l .digits) (m .most) (m .digits))) in
-    rw (is x u a b (h .here) (g .here), is y v (a * 2 ^ i) (b * 2 ^ j) (h .there) (g .there), e) (rounded f top k (product l m) s (a * b) K R N)
+    let e : a * 2 ^ i * (b * 2 ^ j) ≡ a * b * 2 ^ ((l .power + m .power) * k) =
+    powers a i b j ∙ ap (λ (z : ℕ). a * b * 2 ^ z) (sym (add-mul (l .power) (m .power) k)) in
+    let N : a * b ≤ l .most * m .most * 2 ^ (l .digits + m .digits) =
+    le-trans (mul-le-mul (h .few) (g .few)) (le-of-eq (powers (l .most) (l .digits) (m .most) (m .digits))) in
+    rw (mul-units f x u _ _ a _ b _ (h .here) (g .here), mul-units f y v _ _ (a * 2 ^ i) _ (b * 2 ^ j) _ (h .there) (g .there), e)
+    (rounded f top k (product l m) (unlike (h .sign) (g .sign)) (a * b) K R N)
 
--- ---- the sum: its sign and its size are those of the whole numbers, whatever both are multiplied by
-same-bool : (x y : Bool) → (T x → T y) → (T y → T x) → x ≡ y
-same-bool true true f g = refl
-same-bool true false f g = absurd (f tt)
-same-bool false true f g = absurd (g tt)
-same-bool false false f g = refl
-
-ltb-scale : (a b c : ℕ) → 0 < c → ltb (a * c) (b * c) ≡ ltb a b
-ltb-scale a b c C = same-bool (ltb (a * c) (b * c)) (ltb a b)
-    (λ t. lt→ltb a b (lt-of-mul-lt-mul-right c (ltb→lt (a * c) (b * c) t)))
-    (λ t. lt→ltb (a * c) (b * c) (mul-lt-mul-of-pos-right (ltb→lt a b t) C))
-
-sub-scale : (a b c : ℕ) → a * c - b * c ≡ (a - b) * c
-sub-scale a b c = (λ i. mul-comm a c i - mul-comm b c i) ∙ sym (mul-sub c a b) ∙ mul-comm c (a - b)
-
-record Shape (f : Format) (s t : Bool) (a b : ℕ) : Type 0 where
-  sign : Bool
-  size : ℕ
-  few : size ≤ a + b
-  is : (c d : ℕ) → 0 < c → sum f s (a * c) t (b * c) d ≡ round f sign (size * c) d
-
-shape : (f : Format) (s t : Bool) (a b : ℕ) → Shape f s t a b
-unfolding sum
-shape f s t a b = go (Bool·beq s t) (ltb a b) refl refl
-  where
-    less : (a b : ℕ) → a - b ≤ a + b
-    less a b = omega arith
-
-    less' : (a b : ℕ) → b - a ≤ a + b
-    less' a b = omega arith
-
-    pick : (q l : Bool) → Bool·beq s t ≡ q → ltb a b ≡ l → (c d : ℕ) → 0 < c
-        → sum f s (a * c) t (b * c) d ≡ cond q (round f s (a * c + b * c) d) (cond l (round f t (b * c - a * c) d) (round f (s && ltb (b * c) (a * c)) (a * c - b * c) d))
-    pick q l e g c d C = λ i. cond (e i) (round f s (a * c + b * c) d) (cond ((ltb-scale a b c C ∙ g) i) (round f t (b * c - a * c) d) (round f (s && ltb (b * c) (a * c)) (a * c - b * c) d))
-
-    go : (q l : Bool) → Bool·beq s t ≡ q → ltb a b ≡ l → Shape f s t a b
-    go true l e g = record { sign = s; size = a + b; few = le-refl (a + b); is = λ c d C. pick true l e g c d C ∙ ap (λ (n : ℕ). round f s n d) (sym (add-mul a b c)) }
-    go false true e g = record { sign = t; size = b - a; few = less' a b; is = λ c d C. pick false true e g c d C ∙ ap (λ (n : ℕ). round f t n d) (sub-scale b a c) }
-    go false false e g = record { sign = s && ltb b a; size = a - b; few = less a b; is = λ c d C. pick false false e g c d C ∙ (λ i. round f (s && ltb-scale b a c C i) (sub-scale a b c i) d) }
-
-sum-scale : (f : Format) (s t : Bool) (a b c d : ℕ) → 0 < c → 0 < d → sum f s (a * c) t (b * c) (d * c) ≡ sum f s a t b d
-sum-scale f s t a b c d C D =
-    let g = shape f s t a b in
-    g .is c (d * c) C
-    ∙ round-same f (g .sign) (g .size * c) (d * c) (g .size * 1) d (mul-pos D C) D (simp (mul-assoc, mul-comm, one-mul))
-    ∙ sym (g .is 1 d (zero-lt-suc 0))
-    ∙ (λ i. sum f s (mul-one a i) t (mul-one b i) d)
-
-add-value : (f : Format) (x u : Float) (s t : Bool) (a b p c : ℕ) → 0 < p → 0 < c → HasValue x s (a * p) c → HasValue u t (b * p) c
-    → add f x u ≡ round f (shape f s t a b .sign) (shape f s t a b .size * p) c
-unfolding add
-add-value f nan u s t a b p c P C h k = absurd h
-add-value f (inf z) u s t a b p c P C h k = absurd h
-add-value f (fin z m e) nan s t a b p c P C h k = absurd k
-add-value f (fin z m e) (inf y) s t a b p c P C h k = absurd k
-add-value f (fin z m e) (fin y n d) s t a b p c P C h k =
-    let v = down e * down d in
-    let D : 0 < v = mul-pos (down-pos e) (down-pos d) in
-    let A : m * up e * down d * c ≡ a * (p * v) = mul-right-comm (m * up e) (down d) c ∙ ap (λ (i : ℕ). i * down d) (h .1) ∙ simp mul-assoc in
-    let B : n * up d * down e * c ≡ b * (p * v) = mul-right-comm (n * up d) (down e) c ∙ ap (λ (i : ℕ). i * down e) (k .1) ∙ simp (mul-assoc, mul-comm (down d) (down e)) in
-    let g = shape f s t a b in
-    sym (sum-scale f z y (m * up e * down d) (n * up d * down e) c v C D)
-    ∙ (λ i. sum f (h .0 i) (A i) (k .0 i) (B i) (v * c))
-    ∙ g .is (p * v) (v * c) (mul-pos P D)
-    ∙ round-same f (g .sign) (g .size * (p * v)) (v * c) (g .size * p) c (mul-pos D C) C (simp (mul-assoc, mul-comm, mul-left-comm))
-
+-- ---- the sum
 pub plus-scaled : (f : Format) (top k m n : ℕ) (l : Level) (x y u v : Float) → k ≤ top → T (roomy f top (many (m + n) l))
     → Scaled (many m l) k x y → Scaled (many n l) k u v → Scaled (many (m + n) l) k (add f x u) (add f y v)
 plus-scaled f top k m n l x y u v K R h g =
@@ -401,7 +236,8 @@ finer-scaled k v l x y h =
       count = h .count * 2 ^ v;
       few = le-trans (mul-le-mul-right (2 ^ v) (h .few)) (le-of-eq (shift (l .most) (l .digits) v));
       here = same-value x (h .sign) (h .count) (2 ^ l .unit) (h .count * 2 ^ v) (2 ^ (l .unit + v)) (pow-pos (l .unit)) (same (h .count)) (h .here);
-      there = same-value y (h .sign) (h .count * 2 ^ (l .power * k)) (2 ^ l .unit) (h .count * 2 ^ v * 2 ^ (l .power * k)) (2 ^ (l .unit + v)) (pow-pos (l .unit))
+      there =
+          same-value y (h .sign) (h .count * 2 ^ (l .power * k)) (2 ^ l .unit) (h .count * 2 ^ v * 2 ^ (l .power * k)) (2 ^ (l .unit + v)) (pow-pos (l .unit))
           (ap (λ (n : ℕ). n * 2 ^ l .unit) (mul-right-comm (h .count) (2 ^ v) (2 ^ (l .power * k))) ∙ same (h .count * 2 ^ (l .power * k))) (h .there);
     }
   where
@@ -421,32 +257,22 @@ within-scaled k l m x y t h =
       there = rw (sym u, sym p) (h .there);
     }
 
--- ---- 2 ^ k, and a whole number times it; -0.0 is a whole number
-abbrev pub two : ℕ → Float
-two k = fin false 1 (pos k)
-
-pub record Whole (j : ℕ) (x : Float) : Type 0 where
-  pub sign : Bool
-  pub size : ℕ
-  pub few : size ≤ 2 ^ j
-  pub is : HasValue x sign size 1
-
-like-false : (s : Bool) → unlike s false ≡ s
-like-false true = refl
-like-false false = refl
-
+-- ---- 2 ^ k times a value
 mul-two : (f : Format) (p : ℕ) (x : Float) (s : Bool) (n c : ℕ) → 0 < c → HasValue x s n c → mul f x (two p) ≡ round f s (n * 2 ^ p) c
 mul-two f p x s n c C h =
-    mul-value f x (two p) s false n c (2 ^ p) 1 C (zero-lt-suc 0) h (refl, ap (λ (z : ℕ). z * 1) (one-mul (2 ^ p))) ∙ (λ i. round f (like-false s i) (n * 2 ^ p) (mul-one c i))
+    mul-value f x (two p) s false n c (2 ^ p) 1 C (zero-lt-suc 0) h (refl, ap (λ (z : ℕ). z * 1) (one-mul (2 ^ p)))
+    ∙ (λ i. round f (unlike-false s i) (n * 2 ^ p) (mul-one c i))
 
 -- a value of few digits times the gain is exact
-amplified : (f : Format) (top k : ℕ) (l : Level) (x : Float) (s : Bool) (n q j : ℕ) → k ≤ top → T (roomy f top l) → n ≤ l .most * 2 ^ l .digits → HasValue x s n (2 ^ l .unit)
-    → q < 2 ^ prec f → n * 2 ^ (low f - l .unit) ≡ q * 2 ^ j → HasValue (mul f x (two (l .power * k))) s (n * 2 ^ (l .power * k)) (2 ^ l .unit)
+amplified : (f : Format) (top k : ℕ) (l : Level) (x : Float) (s : Bool) (n q j : ℕ) → k ≤ top → T (roomy f top l) → n ≤ l .most * 2 ^ l .digits
+    → HasValue x s n (2 ^ l .unit) → q < 2 ^ prec f → n * 2 ^ (low f - l .unit) ≡ q * 2 ^ j
+    → HasValue (mul f x (two (l .power * k))) s (n * 2 ^ (l .power * k)) (2 ^ l .unit)
 amplified f top k l x s n q j K R N h Q e =
     let p = l .power * k in
     let d = low f - l .unit in
     rw (mul-two f p x s n (2 ^ l .unit) (pow-pos (l .unit)) h)
-    (exact f (l .unit) (room f top l R .0) s (n * 2 ^ p) q (j + p) Q (in-range f top k l n K R N) (mul-right-comm n (2 ^ p) (2 ^ d) ∙ ap (λ (z : ℕ). z * 2 ^ p) e ∙ shift q j p))
+    (exact f (l .unit) (room f top l R .0) s (n * 2 ^ p) q (j + p) Q (in-range f top k l n K R N)
+    (mul-right-comm n (2 ^ p) (2 ^ d) ∙ ap (λ (z : ℕ). z * 2 ^ p) e ∙ shift q j p))
 
 pub gained : (f : Format) (top k j : ℕ) (x : Float) → k ≤ top → T (roomy f top (wholes j)) → j < prec f → Whole j x → Scaled (wholes j) k x (mul f x (two k))
 gained f top k j x K R J h =
@@ -465,77 +291,27 @@ gained f top k j x K R J h =
 pub times-of : (k : ℕ) (l : Level) (x y : Float) → Scaled l k x y → Times (l .power * k) x y
 times-of k l x y h = record { sign = h .sign; up = h .count; over = 2 ^ l .unit; some = pow-pos (l .unit); here = h .here; there = h .there }
 
--- the sign and the size fix a value that the format holds
-same-bits : (f : Format) (x y : Float) (s : Bool) (a c : ℕ) → 0 < c → HasValue x s a c → HasValue y s a c → toBits f x ≡ toBits f y
-unfolding toBits
-same-bits f nan y s a c C h k = absurd h
-same-bits f (inf t) y s a c C h k = absurd h
-same-bits f (fin t m e) nan s a c C h k = absurd k
-same-bits f (fin t m e) (inf r) s a c C h k = absurd k
-same-bits f (fin t m e) (fin r n d) s a c C h k =
-    let u = 2 ^ low f in
-    let q : m * up e * down d ≡ n * up d * down e = ratios a (down e) (m * up e) (down d) (n * up d) c C (sym (h .1)) (sym (k .1)) in
-    rw (
-      h .0,
-      k .0,
-      div-same (m * up e * u) (down e) (n * up d * u) (down d) (down-pos e) (down-pos d)
-          (mul-right-comm (m * up e) u (down d) ∙ ap (λ (z : ℕ). z * u) q ∙ mul-right-comm (n * up d) (down e) u),
-    )
-
-value-unique : (f : Format) (x y : Float) (s : Bool) (a c : ℕ) → T (fits f x) → T (fits f y) → 0 < c → HasValue x s a c → HasValue y s a c → x ≡ y
-value-unique f x y s a c p q C h k = sym (ofBits-toBits f x p) ∙ ap (ofBits f) (same-bits f x y s a c C h k) ∙ ofBits-toBits f y q
-
--- m * 2 ^ e with few digits m, in units of 2 ^ -v
-few-digits : (f : Format) (s : Bool) (m : ℕ) (e : ℤ) → T (fits f (fin s m e)) → m < 2 ^ prec f
-unfolding fits
-few-digits f s zero e t = pow-pos (prec f)
-few-digits f s (suc m) e t =
-    ltb→lt (suc m) (2 ^ prec f) (and-r (eqb (suc m % 2) 1) (ltb (suc m) (2 ^ prec f))
-    (three (eqb (suc m % 2) 1 && ltb (suc m) (2 ^ prec f)) (leb (down e) (2 ^ low f)) (ltb (suc m * up e) (2 ^ suc (emax f) * down e)) t .0))
-
-in-units : (v m : ℕ) (e : ℤ) → down e ≤ 2 ^ v → (j : ℕ) × (m * up e * 2 ^ v ≡ m * 2 ^ j * down e)
-in-units v m (pos a) h = (a + v, shift m a v ∙ sym (mul-one (m * 2 ^ (a + v))))
-in-units v m (negsuc a) h =
-    let A : suc a ≤ v = le-of-suc-le-suc (lt-of-not-le (λ (g : suc v ≤ suc a). not-le-of-lt (pow-lt g) h)) in
-    (v - suc a, ap (λ (z : ℕ). z * 2 ^ v) (mul-one m) ∙ ap (λ (z : ℕ). m * 2 ^ z) (sym (back v (suc a) A)) ∙ sym (shift m (v - suc a) (suc a)))
-
 pub scaled-product : (f : Format) (top k : ℕ) (l : Level) (x y : Float) → k ≤ top → T (roomy f top l) → T (fits f x) → T (fits f y)
     → Scaled l k x y → y ≡ mul f x (two (l .power * k))
 scaled-product f top k l x y K R p q h =
-    value-unique f y (mul f x (two (l .power * k))) (h .sign) (h .count * 2 ^ (l .power * k)) (2 ^ l .unit) q
-    (mul-fits f x (two (l .power * k))) (pow-pos (l .unit)) (h .there) (go x p (h .here))
-  where
-    go : (x : Float) → T (fits f x) → HasValue x (h .sign) (h .count) (2 ^ l .unit) → HasValue (mul f x (two (l .power * k))) (h .sign) (h .count * 2 ^ (l .power * k)) (2 ^ l .unit)
-    go nan p v = absurd v
-    go (inf t) p v = absurd v
-    go (fin t m e) p v =
-        let n = h .count in
-        let u = l .unit in
-        let d = low f - u in
-        let i = in-units (low f) m e (low-fits f t m e p) in
-        let a : n * 2 ^ d ≡ m * 2 ^ i .0 =
-        eq-of-mul-eq-mul-right (down e) (down-pos e) (n * 2 ^ d) (m * 2 ^ i .0)
-        (mul-right-comm n (2 ^ d) (down e) ∙ ap (λ (z : ℕ). z * 2 ^ d) (sym (v .1)) ∙ mul-right-comm (m * up e) (2 ^ u) (2 ^ d) ∙ sym (fine f u (room f top l R .0) (m * up e)) ∙ i .1) in
-        amplified f top k l (fin t m e) (h .sign) n m (i .0) K R (h .few) v (few-digits f t m e p) a
+    let n = h .count in
+    let u = l .unit in
+    let b = two (l .power * k) in
+    let d = digits f x (h .sign) (n * 2 ^ (low f - u)) p (to-finer x (h .sign) n u (low f) (room f top l R .0) (h .here)) in
+    value-unique f y (mul f x b) (h .sign) (n * 2 ^ (l .power * k)) (2 ^ u) q (mul-fits f x b) (pow-pos u) (h .there)
+    (amplified f top k l x (h .sign) n (d .m) (d .j) K R (h .few) (h .here) (d .small) (sym (d .is)))
 
--- a value of the format f that is zero, or at least 2 ^ -u, is a whole number of a unit that is prec - 1 digits finer
-abbrev pub grain : Format → ℕ → ℕ → ℕ → Level
-grain f u j p = record { unit = u + (prec f - 1); most = 1; digits = j + (prec f - 1); power = p }
-
--- so much finer that every digit of the value is a whole number of them
+-- ---- the grain is so much finer than 2 ^ -u that every digit of a value is a whole number of it
 grain-fits : (f : Format) (u : ℕ) (s : Bool) (m : ℕ) (e : ℤ) → T (fits f (fin s m e)) → (0 < m → down e ≤ m * up e * 2 ^ u)
     → down e ≤ 2 ^ (u + (prec f - 1))
-unfolding fits
-grain-fits f u s zero e t h =
-    le-trans (le-trans (le-of-eq (sym (one-mul (down e)))) (mul-le-mul-right (down e) (up-pos e))) (le-trans (le-of-eq (eqb→eq (up e * down e) 1 t)) (pow-pos (u + (prec f - 1))))
+grain-fits f u s zero e t h = zero-down f s e (u + (prec f - 1)) t
 grain-fits f u s (suc m) (pos a) t h = pow-pos (u + (prec f - 1))
 grain-fits f u s (suc m) (negsuc a) t h =
     pow-mono (last (suc a) u (prec f) (digits-two f) (lt-of-not-le (λ (g : prec f + u ≤ suc a). not-le-of-lt (few g) (h (zero-lt-suc m)))))
   where
     few : prec f + u ≤ suc a → suc m * 1 * 2 ^ u < 2 ^ suc a
     few g =
-        lt-of-lt-of-le (mul-lt-mul-of-pos-right (lt-of-le-of-lt (le-of-eq (mul-one (suc m))) (few-digits f s (suc m) (negsuc a) t)) (pow-pos u))
-        (le-trans (le-of-eq (sym (pow-add 2 (prec f) u))) (pow-mono g))
+        lt-of-lt-of-le (shl-lt (prec f) u (lt-of-le-of-lt (le-of-eq (mul-one (suc m))) (few-digits f s (suc m) (negsuc a) t))) (pow-mono g)
 
     last : (a u p : ℕ) → 2 ≤ p → a < p + u → a ≤ u + (p - 1)
     last a u p P h = omega arith
@@ -564,7 +340,8 @@ regrained f k u j p (fin s m e) y F t lo hi =
           le-of-mul-le-mul-right
           (le-trans (le-of-eq (sym E ∙ sym (shift a u (prec f - 1))))
           (le-trans (mul-le-mul-right (2 ^ (prec f - 1)) hi)
-          (le-of-eq (mul-right-comm (2 ^ j) c (2 ^ (prec f - 1)) ∙ ap (λ (z : ℕ). z * c) (sym (pow-add 2 j (prec f - 1)) ∙ sym (one-mul (2 ^ (j + (prec f - 1)))))))))
+          (le-of-eq (mul-right-comm (2 ^ j) c (2 ^ (prec f - 1))
+          ∙ ap (λ (z : ℕ). z * c) (sym (pow-add 2 j (prec f - 1)) ∙ sym (one-mul (2 ^ (j + (prec f - 1)))))))))
           (t .some);
       here = (t .here .0, i .1);
       there = same-value y (t .sign) (a * 2 ^ (p * k)) c (n * 2 ^ (p * k)) (2 ^ v) (t .some)

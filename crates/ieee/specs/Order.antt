@@ -10,14 +10,15 @@ use native.Mathlib.Omega.{arith}
 use lib.IntN.{ℤ, pos}
 use lib.Arith.{lt→nleb, le-zero}
 use lib.Dec.{T, ltb, leb, eqb, ltb→lt, lt→ltb, nleb→lt, leb→le, le→leb, eqb→eq, leb·zero, leb·suc-zero, leb·suc-suc, eqb·suc-zero, eqb·suc-suc, T-not, not-T}
-use lib.Ieee.{Float, nan, inf, fin, Format, up, down, unlike, round, below, level, neg, div, lt, le, eq, ne, isNan}
+use lib.Ieee.{Float, nan, inf, fin, Format, up, down, round, below, level, neg, div, lt, le, eq, ne, isNan}
 use lib.Ieee.Fits.{down-pos, eq→eqb, and-l, and-r, and-i}
 use lib.Ieee.Compare.{differs-from-itself}
 use lib.Ieee.Order.{round-mono}
 use lib.Ieee.Positive.{positive, num, den, den-pos, own-value, value-pos}
-use Rattle.ieee.specs.Signs.{round-neg}
+use Rattle.ieee.specs.Numbers.{same-bool, eqb-same}
+use Rattle.ieee.specs.Signs.{unlike-false, round-neg}
 use Rattle.ieee.specs.Zeros.{round-zero}
-use Rattle.ieee.specs.Times.{same-bool, eqb-same, most, most-scale}
+use Rattle.ieee.specs.Times.{most, most-scale}
 
 -- ---- at a NaN: no comparison holds but "unequal"
 pub nan-lt : (x : Float) → lt nan x ≡ false
@@ -150,7 +151,8 @@ lt-not-le (fin s m e) (inf false) p q = refl
 lt-not-le (fin s m e) (fin t n d) p q =
     let x = m * up e in
     let y = n * up d in
-    below-is s t x (down e) y (down d) ∙ ltb-is (left s x (down e) t y (down d)) (left t y (down d) s x (down e)) ∙ ap not (sym (most-is t s y (down d) x (down e)))
+    below-is s t x (down e) y (down d) ∙ ltb-is (left s x (down e) t y (down d)) (left t y (down d) s x (down e))
+    ∙ ap not (sym (most-is t s y (down d) x (down e)))
 
 -- the same as steps of a proof
 lt-le : (x y : Float) → T (lt x y) → T (le x y)
@@ -242,7 +244,8 @@ round-zeros f s t b d B D = rw (round-zero f s b B, round-zero f t d D) (zeros s
     zeros false false = tt
 
 round-anti : (f : Format) (a b c d : ℕ) → 0 < b → 0 < d → c * b ≤ a * d → T (le (round f true a b) (round f true c d))
-round-anti f a b c d B D h = rw (sym (round-neg f false a b), sym (round-neg f false c d)) (neg-le (round f false c d) (round f false a b) (round-mono f c d a b D B h))
+round-anti f a b c d B D h =
+    rw (sym (round-neg f false a b), sym (round-neg f false c d)) (neg-le (round f false c d) (round f false a b) (round-mono f c d a b D B h))
 
 round-number : (f : Format) (s : Bool) (a b : ℕ) → 0 < b → isNan (round f s a b) ≡ false
 round-number f false a b B = number-l (round f false a b) (round f false a b) (round-mono f a b a b B B (le-refl (a * b)))
@@ -262,16 +265,12 @@ rounds f false true a b c d B D h =
     nil a d D h = le-zero (le-of-mul-le-mul-right h D)
 
 -- ---- a quotient by a number above zero
-like : (s : Bool) → unlike s false ≡ s
-like true = refl
-like false = refl
-
 inf-over : (f : Format) (s : Bool) (d : Float) → T (positive d) → div f (inf s) d ≡ inf s
 unfolding div
 inf-over f s nan p = absurd p
 inf-over f s (inf t) p = absurd p
 inf-over f s (fin true n g) p = absurd p
-inf-over f s (fin false n g) p = ap inf (like s)
+inf-over f s (fin false n g) p = ap inf (unlike-false s)
 
 fin-over : (f : Format) (s : Bool) (m : ℕ) (e : ℤ) (d : Float) → T (positive d) → div f (fin s m e) d ≡ round f s (m * up e * den d) (num d * down e)
 unfolding div
@@ -279,7 +278,7 @@ fin-over f s m e nan p = absurd p
 fin-over f s m e (inf t) p = absurd p
 fin-over f s m e (fin true n g) p = absurd p
 fin-over f s m e (fin false zero g) p = absurd p
-fin-over f s m e (fin false (suc n) g) p = rw (eqb·suc-zero n, like s)
+fin-over f s m e (fin false (suc n) g) p = rw (eqb·suc-zero n, unlike-false s)
 
 num-pos : (d : Float) → T (positive d) → 0 < num d
 num-pos d p = value-pos d (num d) (den d) p (den-pos d) (own-value d p)
@@ -297,7 +296,8 @@ quotient-mono f (inf true) y d p h = rw (inf-over f true d p) (bottom (div f y d
 quotient-mono f (inf false) y d p h = subst (λ (v : Float). T (le (div f (inf false) d) (div f v d))) (at-top y h) (rw (inf-over f false d p) tt)
 quotient-mono f (fin s m e) nan d p h = absurd h
 quotient-mono f (fin s m e) (inf true) d p h = absurd h
-quotient-mono f (fin s m e) (inf false) d p h = rw (inf-over f false d p) (top (div f (fin s m e) d) (quotient-nan f (fin s m e) d p ∙ number-l (fin s m e) (inf false) h))
+quotient-mono f (fin s m e) (inf false) d p h =
+    rw (inf-over f false d p) (top (div f (fin s m e) d) (quotient-nan f (fin s m e) d p ∙ number-l (fin s m e) (inf false) h))
 quotient-mono f (fin s m e) (fin t n g) d p h =
     let x = m * up e in
     let y = n * up g in
@@ -315,4 +315,5 @@ quotient-beats f x y d p h =
     let a = div f x d in
     let b = div f y d in
     let k : T (le a b) = lt-le a b h in
-    lt-of-no-le x y (sym (quotient-nan f x d p) ∙ number-l a b k) (sym (quotient-nan f y d p) ∙ number-r a b k) (λ g. lt-no-le a b h (quotient-mono f y x d p g))
+    lt-of-no-le x y (sym (quotient-nan f x d p) ∙ number-l a b k) (sym (quotient-nan f y d p) ∙ number-r a b k)
+    (λ g. lt-no-le a b h (quotient-mono f y x d p g))

@@ -1,21 +1,23 @@
--- `rootUnits n` is nearer to the root of n than any other f64. An f64 is v = m * 2 ^ j units with m below 2 ^ 53, and so is n itself, times a power of two. For r the root's units: where v is less
--- than r, the point halfway between them, (v + r) / 2, is less than the root of n, and where v is greater it is greater. Squared, and times 4, that is said of whole numbers.
--- And the root grows with n. Assumes nothing.
+-- `rootUnits n` is nearer to the root of n than any other f64. An f64 is v = m * 2 ^ j units with m below 2 ^ 53, and so is n itself, times
+-- a power of two. For r the root's units: where v is less than r, the point halfway between them, (v + r) / 2, is less than the root of n,
+-- and where v is greater it is greater. Squared, and times 4, that is said of whole numbers. And the root grows with n.
+-- Assumes nothing.
 use mathlib.Core.Path.{_≡_, refl, sym, ap, _∙_, subst}
-use mathlib.Core.Bool.{Bool, true, false, not, cond}
+use mathlib.Core.Bool.{Bool, true, false}
 use mathlib.Core.Logic.{_⊎_, inl, inr}
-use Prim.Native.Nat.{ℕ, zero, suc, _+_, _-_, _*_, _/_, _%_, _^_, _≤_, _<_, zero-le}
-use native.Mathlib.Nat.{le-refl, le-trans, le-of-eq, le-of-lt, lt-of-lt-of-le, lt-of-le-of-lt, lt-of-not-le, not-le-of-lt, le-of-suc-le-suc, mul-comm, mul-assoc, mul-left-comm, mul-right-comm, mul-mul-mul-comm, mul-add, add-mul, mul-le-mul, mul-le-mul-left, mul-le-mul-right, mul-lt-mul-of-pos-right, eq-of-mul-eq-mul-right, lt-of-mul-lt-mul-right, le-div-iff-mul-le, eq-or-lt-of-le}
+use Prim.Native.Nat.{ℕ, suc, _+_, _-_, _*_, _/_, _^_, _≤_, _<_, zero-le}
+use native.Mathlib.Nat.{le-trans, le-of-eq, le-of-lt, lt-of-lt-of-le, lt-of-le-of-lt, lt-of-not-le, not-le-of-lt, le-of-suc-le-suc, mul-assoc, mul-add, add-mul, mul-le-mul, mul-le-mul-left, mul-le-mul-right, mul-lt-mul-of-pos-right, eq-of-mul-eq-mul-right, lt-of-mul-lt-mul-right, le-div-iff-mul-le, eq-or-lt-of-le}
 use native.Mathlib.Omega.{arith}
 use lib.Arith.{lt-of-le-ne}
-use lib.Dec.{T, ltb, ltb→lt, nltb→le, lt→ltb, lit≤}
+use lib.Dec.{T, ltb, ltb→lt, lt→ltb, lit≤}
 use lib.Pow.{pow-add, pow-pos, pow-mono, shl-lt, shr-mono}
 use lib.Ieee.{size}
-use lib.Ieee.Digits.{back, size-lt, size-le, size-reaches}
-use Rattle.ieee.specs.Root.{more, wholeRoot, rootDrop, rootKept, rootUnits}
-use Rattle.ieee.specs.WholeRoot.{IsRoot, whole-root, square-back}
-use Rattle.ieee.specs.RootNear.{NearestRoot, nearest-root, kept-low, kept-high, cut-low}
-use Rattle.ieee.specs.RootUnits.{size-gt, halfway}
+use lib.Ieee.Digits.{size-lt, size-le}
+use Rattle.ieee.specs.Numbers.{split, le-of-next, powers, fine}
+use Rattle.ieee.specs.Root.{more, wholeRoot, rootDrop, rootKept}
+use Rattle.ieee.specs.WholeRoot.{whole-root, square-back}
+use Rattle.ieee.specs.RootNear.{nearest-root, kept-low, kept-high, cut-low}
+use Rattle.ieee.specs.RootUnits.{halfway}
 
 -- the root in units
 abbrev pub rootValue : ℕ → ℕ
@@ -28,14 +30,12 @@ pub record Nearer (n r v : ℕ) : Type 0 where
 -- m * 2 ^ j that reaches 2 ^ 52 * 2 ^ k is a multiple of 2 ^ k
 multiple : (m j k : ℕ) → m < 2 ^ 53 → 4503599627370496 * 2 ^ k ≤ m * 2 ^ j → (w : ℕ) × (m * 2 ^ j ≡ w * 2 ^ k)
 multiple m j k h l =
-    let K : k ≤ j = le-of-suc-le-suc (lt-of-not-le (λ (g : suc j ≤ k). not-le-of-lt (shl-lt 53 j h) (le-trans (le-trans (pow-mono (more-than j k g)) (le-of-eq (pow-add 2 52 k))) l))) in
-    (m * 2 ^ (j - k), ap (λ (x : ℕ). m * 2 ^ x) (sym (back j k K)) ∙ ap (λ (x : ℕ). m * x) (pow-add 2 (j - k) k) ∙ sym (mul-assoc m (2 ^ (j - k)) (2 ^ k)))
+    let K : k ≤ j = le-of-suc-le-suc (lt-of-not-le (λ (g : suc j ≤ k).
+    not-le-of-lt (shl-lt 53 j h) (le-trans (le-trans (pow-mono (more-than j k g)) (le-of-eq (pow-add 2 52 k))) l))) in
+    (m * 2 ^ (j - k), fine m k j K)
   where
     more-than : (j k : ℕ) → suc j ≤ k → 53 + j ≤ 52 + k
     more-than j k h = omega arith
-
-squared : (a b P : ℕ) → a * P * (b * P) ≡ a * b * (P * P)
-squared a b P = mul-mul-mul-comm a P b P
 
 less-squared : (a b : ℕ) → a < b → a * a < b * b
 less-squared a b h = lt-of-le-of-lt (mul-le-mul-left a (le-of-lt h)) (mul-lt-mul-of-pos-right h (lt-of-le-of-lt zero-le h))
@@ -48,10 +48,12 @@ module _ (n : ℕ) (big : 104 < size n) (m₀ j₀ : ℕ) (small : m₀ < 2 ^ 53
       let k = rootDrop n in
       let P = 2 ^ (k + k) in
       let q = rootKept n in
-      let w = multiple m₀ j₀ (k + k) small (le-trans (mul-le-mul-right P lit-le) (le-trans (le-div-iff-mul-le (pow-pos (k + k)) .0 (cut-low n big)) (le-of-eq (sym is)))) in
+      let w = multiple m₀ j₀ (k + k) small
+      (le-trans (mul-le-mul-right P lit-le) (le-trans (le-div-iff-mul-le (pow-pos (k + k)) .0 (cut-low n big)) (le-of-eq (sym is)))) in
       let e : n ≡ w .0 * P = sym is ∙ w .1 in
       let f : 4 * n ≡ 4 * w .0 * P = ap (λ (x : ℕ). 4 * x) e ∙ sym (mul-assoc 4 (w .0) P) in
-      lt-of-le-ne (nearest-root n big .high) (λ g. odd-square q (w .0) (eq-of-mul-eq-mul-right P (pow-pos (k + k)) (4 * w .0) ((2 * q + 1) * (2 * q + 1)) (sym f ∙ g)))
+      lt-of-le-ne (nearest-root n big .high) (λ g.
+      odd-square q (w .0) (eq-of-mul-eq-mul-right P (pow-pos (k + k)) (4 * w .0) ((2 * q + 1) * (2 * q + 1)) (sym f ∙ g)))
     where
       lit-le : 4503599627370496 ≤ 2 ^ 104
       lit-le = lit≤ tt
@@ -72,7 +74,7 @@ module _ (n : ℕ) (big : 104 < size n) (m₀ j₀ : ℕ) (small : m₀ < 2 ^ 53
       let e : m * 2 ^ j + q * P ≡ (v + q) * P = ap (λ (x : ℕ). x + q * P) (w .1) ∙ sym (add-mul v q P) in
       lt-of-lt-of-le no-tie
       (le-trans (mul-le-mul-right (2 ^ (k + k)) (mul-le-mul s s))
-      (le-of-eq (ap (λ (x : ℕ). (v + q) * (v + q) * x) (pow-add 2 k k) ∙ sym (squared (v + q) (v + q) P) ∙ ap (λ (x : ℕ). x * x) (sym e))))
+      (le-of-eq (sym (powers (v + q) k (v + q) k) ∙ ap (λ (x : ℕ). x * x) (sym e))))
 
   -- where the root has no digits but the leading one, it is not above the root of n
   exact : rootKept n ≤ 4503599627370496 → rootValue n * rootValue n ≤ n
@@ -80,15 +82,11 @@ module _ (n : ℕ) (big : 104 < size n) (m₀ j₀ : ℕ) (small : m₀ < 2 ^ 53
       let k = rootDrop n in
       let P = 2 ^ k in
       le-trans (mul-le-mul (mul-le-mul-right P h) (mul-le-mul-right P h))
-      (le-trans (le-of-eq (squared 4503599627370496 4503599627370496 P ∙ ap (λ (x : ℕ). 20282409603651670423947251286016 * x) (sym (pow-add 2 k k))))
-      (le-div-iff-mul-le (pow-pos (k + k)) .0 (cut-low n big)))
+      (le-trans (le-of-eq (powers 4503599627370496 k 4503599627370496 k)) (le-div-iff-mul-le (pow-pos (k + k)) .0 (cut-low n big)))
 
   under : (m j : ℕ) → m < 2 ^ 53 → m * 2 ^ j < rootValue n → (m * 2 ^ j + rootValue n) * (m * 2 ^ j + rootValue n) < 4 * n
   under m j h l = go (eq-or-lt-of-le (kept-low n big))
     where
-      k : ℕ
-      k = rootDrop n
-
       four : (r : ℕ) → (r + r) * (r + r) ≡ 4 * (r * r)
       four r = rw (add-mul, mul-add) (omega arith)
 
@@ -106,20 +104,20 @@ module _ (n : ℕ) (big : 104 < size n) (m₀ j₀ : ℕ) (small : m₀ < 2 ^ 53
           let e : q ≡ d + 1 = omega arith in
           subst (λ (q : ℕ). v + P ≤ q * P → v + q * P ≤ (2 * q - 1) * P) (sym e) (λ f.
           let g : 2 * (d + 1) - 1 ≡ d + d + 1 = omega arith in
-          subst (λ (x : ℕ). v + (d + 1) * P ≤ x * P) (sym g) (let p₁ = add-mul d 1 P in let p₂ = add-mul (d + d) 1 P in let p₃ = add-mul d d P in omega arith)) a
+          subst (λ (x : ℕ). v + (d + 1) * P ≤ x * P) (sym g)
+          (let p₁ = add-mul d 1 P in let p₂ = add-mul (d + d) 1 P in let p₃ = add-mul d d P in omega arith)) a
 
       step : (v q P : ℕ) → v < q → v * P + P ≤ q * P
       step v q P a = le-trans (le-of-eq (let p = add-mul v 1 P in omega arith)) (mul-le-mul-right P (let b : v + 1 ≤ q = omega arith in b))
 
       below : 4503599627370496 < rootKept n → m * 2 ^ j + 2 ^ rootDrop n ≤ rootKept n * 2 ^ rootDrop n
-      below g = cases (ltb (m * 2 ^ j) (4503599627370496 * 2 ^ rootDrop n)) (ltb→lt _ _) (nltb→le _ _)
-        where
-          cases : (b : Bool) → (T b → m * 2 ^ j < 4503599627370496 * 2 ^ rootDrop n) → (T (not b) → 4503599627370496 * 2 ^ rootDrop n ≤ m * 2 ^ j) → m * 2 ^ j + 2 ^ rootDrop n ≤ rootKept n * 2 ^ rootDrop n
-          cases true y z = let a = y tt in let b = step 4503599627370496 (rootKept n) (2 ^ rootDrop n) g in omega arith
-          cases false y z =
-              let w = multiple m j (rootDrop n) h (z tt) in
-              let c : w .0 < rootKept n = lt-of-mul-lt-mul-right (2 ^ rootDrop n) (subst (λ (x : ℕ). x < rootKept n * 2 ^ rootDrop n) (w .1) l) in
-              subst (λ (x : ℕ). x + 2 ^ rootDrop n ≤ rootKept n * 2 ^ rootDrop n) (sym (w .1)) (step (w .0) (rootKept n) (2 ^ rootDrop n) c)
+      below g = elim (split (m * 2 ^ j) (4503599627370496 * 2 ^ rootDrop n)) [
+        | inl a ↦ let b = step 4503599627370496 (rootKept n) (2 ^ rootDrop n) g in omega arith
+        | inr z ↦
+            let w = multiple m j (rootDrop n) h z in
+            let c : w .0 < rootKept n = lt-of-mul-lt-mul-right (2 ^ rootDrop n) (subst (λ (x : ℕ). x < rootKept n * 2 ^ rootDrop n) (w .1) l) in
+            subst (λ (x : ℕ). x + 2 ^ rootDrop n ≤ rootKept n * 2 ^ rootDrop n) (sym (w .1)) (step (w .0) (rootKept n) (2 ^ rootDrop n) c)
+      ]
 
       some : (q : ℕ) → 4503599627370496 < q → 0 < q
       some q h = omega arith
@@ -131,7 +129,7 @@ module _ (n : ℕ) (big : 104 < size n) (m₀ j₀ : ℕ) (small : m₀ < 2 ^ 53
           let P = 2 ^ rootDrop n in
           let s = lower (m * 2 ^ j) q P (below g) (some q g) in
           lt-of-le-of-lt (mul-le-mul s s)
-          (lt-of-le-of-lt (le-of-eq (squared (2 * q - 1) (2 * q - 1) P ∙ ap (λ (x : ℕ). (2 * q - 1) * (2 * q - 1) * x) (sym (pow-add 2 (rootDrop n) (rootDrop n))))) (nearest-root n big .low))
+          (lt-of-le-of-lt (le-of-eq (powers (2 * q - 1) (rootDrop n) (2 * q - 1) (rootDrop n))) (nearest-root n big .low))
 
   pub nearer : (m j : ℕ) → m < 2 ^ 53 → Nearer n (rootValue n) (m * 2 ^ j)
   nearer m j h = record { less = under m j h; greater = over m j h }
@@ -141,10 +139,7 @@ size-mono : (n m : ℕ) → n ≤ m → size n ≤ size m
 size-mono n m h = size-le n (size m) (lt-of-le-of-lt h (size-lt m))
 
 root-mono : (n m : ℕ) → n ≤ m → wholeRoot n ≤ wholeRoot m
-root-mono n m h = next (square-back (wholeRoot n) (wholeRoot m + 1) (lt-of-le-of-lt (le-trans (whole-root n .low) h) (whole-root m .high)))
-  where
-    next : {a b : ℕ} → a < b + 1 → a ≤ b
-    next {a} {b} h = omega arith
+root-mono n m h = le-of-next (square-back (wholeRoot n) (wholeRoot m + 1) (lt-of-le-of-lt (le-trans (whole-root n .low) h) (whole-root m .high)))
 
 more-mono : (b c : Bool) (s t : ℕ) → s ≤ t → (s ≡ t → T b → T c) → more b s ≤ more c t
 more-mono true true s t h k = omega arith
@@ -168,14 +163,20 @@ root-value-mono n m big h = go (eq-or-lt-of-le drops)
     drops : rootDrop n ≤ rootDrop m
     drops = halves (size n) (size m) (size-mono n m h)
 
+    -- what is kept where k digits are dropped
+    kept : ℕ → ℕ → ℕ
+    kept k n = let s = wholeRoot (n / 2 ^ (k + k)) in more (ltb ((2 * s + 1) * (2 * s + 1) * 2 ^ (k + k)) (4 * n)) s
+
     at : (k : ℕ) → rootDrop m ≡ k → rootDrop n ≡ k → rootKept n ≤ rootKept m
     at k e f =
-        subst (λ (x : ℕ). (let s = wholeRoot (n / 2 ^ (x + x)) in more (ltb ((2 * s + 1) * (2 * s + 1) * 2 ^ (x + x)) (4 * n)) s) ≤ rootKept m) (sym f)
-        (subst (λ (x : ℕ). (let s = wholeRoot (n / 2 ^ (k + k)) in more (ltb ((2 * s + 1) * (2 * s + 1) * 2 ^ (k + k)) (4 * n)) s) ≤ (let s = wholeRoot (m / 2 ^ (x + x)) in more (ltb ((2 * s + 1) * (2 * s + 1) * 2 ^ (x + x)) (4 * m)) s)) (sym e)
+        subst (λ (x : ℕ). kept x n ≤ rootKept m) (sym f)
+        (subst (λ (x : ℕ). kept k n ≤ kept x m) (sym e)
         (let s = wholeRoot (n / 2 ^ (k + k)) in
         let t = wholeRoot (m / 2 ^ (k + k)) in
-        more-mono (ltb ((2 * s + 1) * (2 * s + 1) * 2 ^ (k + k)) (4 * n)) (ltb ((2 * t + 1) * (2 * t + 1) * 2 ^ (k + k)) (4 * m)) s t (root-mono (n / 2 ^ (k + k)) (m / 2 ^ (k + k)) (shr-mono (k + k) h))
-        (λ e y. lt→ltb _ _ (subst (λ (x : ℕ). (2 * x + 1) * (2 * x + 1) * 2 ^ (k + k) < 4 * m) e (lt-of-lt-of-le (ltb→lt _ _ y) (mul-le-mul-left 4 h))))))
+        more-mono (ltb ((2 * s + 1) * (2 * s + 1) * 2 ^ (k + k)) (4 * n)) (ltb ((2 * t + 1) * (2 * t + 1) * 2 ^ (k + k)) (4 * m)) s t
+        (root-mono (n / 2 ^ (k + k)) (m / 2 ^ (k + k)) (shr-mono (k + k) h))
+        (λ e y. lt→ltb _ _
+        (subst (λ (x : ℕ). (2 * x + 1) * (2 * x + 1) * 2 ^ (k + k) < 4 * m) e (lt-of-lt-of-le (ltb→lt _ _ y) (mul-le-mul-left 4 h))))))
 
     up : (a b : ℕ) → a < b → 53 + a ≤ 52 + b
     up a b h = omega arith

@@ -1,60 +1,38 @@
--- The root and narrowing under a gain. The root of 4 ^ t times a number is 2 ^ t times its root, digit for digit, as long as nothing overflows. A root leaves the
--- units of its operand; but a number that is zero, or at least 2 ^ -(u + u), has a root that is zero, or at least 2 ^ -u, and so is a whole
--- number of a finer unit again (`grain`).
+-- The root and narrowing under a gain. The root of 4 ^ t times a number is 2 ^ t times its root, digit for digit, as long as nothing
+-- overflows. A root leaves the units of its operand; but a number that is zero, or at least 2 ^ -(u + u), has a root that is zero, or at
+-- least 2 ^ -u, and so is a whole number of a finer unit again (`grain`).
 -- Assumes nothing.
 use mathlib.Core.Path.{_≡_, refl, sym, ap, _∙_, subst}
-use mathlib.Core.Bool.{Bool, false, _&&_}
+use mathlib.Core.Bool.{Bool, false}
 use mathlib.Core.Logic.{inl, inr}
-use Prim.Native.Nat.{ℕ, suc, _+_, _-_, _*_, _^_, _<_, _≤_, zero-le}
-use native.Mathlib.Nat.{le-trans, le-of-eq, lt-of-le-of-lt, lt-irrefl, one-mul, zero-mul, mul-one, mul-comm, mul-assoc, mul-left-comm, mul-right-comm, add-mul, add-sub-of-le, le-add-left, mul-le-mul, mul-le-mul-left, mul-le-mul-right, eq-zero-or-pos, eq-of-mul-eq-mul-right}
+use Prim.Native.Nat.{ℕ, _+_, _-_, _*_, _^_, _<_, _≤_, zero-le}
+use native.Mathlib.Nat.{le-trans, le-of-eq, lt-of-le-of-lt, lt-irrefl, one-mul, zero-mul, mul-comm, mul-assoc, mul-left-comm, mul-right-comm, add-mul, le-add-left, mul-le-mul-right, eq-zero-or-pos}
 use native.Mathlib.Omega.{arith}
 use lib.IntN.{pos}
-use lib.Dec.{T, leb, ltb, leb→le, ltb→lt, lit<}
-use lib.Pow.{pow-add, pow-pos, pow-mono, pow-lt, shl-lt}
-use lib.Ieee.{Float, nan, inf, fin, Format, binary32, binary64, prec, emax, low, up, down, size, round, fits}
-use lib.Ieee.Fits.{down-pos, and-l, and-r, round-fits}
-use lib.Ieee.Exact.{HasValue, round-exact}
+use lib.Dec.{T, leb, leb→le, lit<}
+use lib.Pow.{pow-add, pow-pos, pow-mono, pow-lt}
+use lib.Ieee.{Float, nan, inf, fin, binary32, binary64, up, down, size, round, fits}
+use lib.Ieee.Fits.{down-pos, round-fits}
+use lib.Ieee.Exact.{HasValue}
 use lib.Ieee.Order.{round-mono}
 use lib.Ieee.Positive.{first-pos, positive-of-value, values-of-le}
 use lib.Ieee.Scale.{round-same}
 use Rattle.ieee.specs.Root.{rootDrop, rootKept, rootOf}
 use Rattle.ieee.specs.Narrow.{narrowOf}
+use Rattle.ieee.specs.Numbers.{le-multiple, shift, grows, size-gt}
 use Rattle.ieee.specs.Signs.{negative, round-sign}
+use Rattle.ieee.specs.Values.{zero-value, to-finer, sign-is}
 use Rattle.ieee.specs.Zeros.{round-zero}
 use Rattle.ieee.specs.Patterns.{units-fits}
 use Rattle.ieee.specs.Times.{Times}
-use Rattle.ieee.specs.Gain.{Level, Scaled, roomy, grain, rounded, regrained}
-use Rattle.ieee.specs.RootUnits.{size-gt, root-of-value}
+use Rattle.ieee.specs.Levels.{Level, Scaled, roomy, grain}
+use Rattle.ieee.specs.Gain.{no-overflow, exact, room, in-range, rounded, regrained}
+use Rattle.ieee.specs.RootUnits.{root-of-value}
 use Rattle.ieee.specs.RootNear.{root-units-is, kept-high}
 use Rattle.ieee.specs.RootBest.{rootValue, root-value-mono}
 use Rattle.ieee.specs.RootShift.{units-long, no-root, root-value, root-power, root-value-shift}
 
--- ---- values
-sign-is : (x : Float) (s : Bool) (a c : ℕ) → HasValue x s a c → negative x ≡ s
-sign-is nan s a c h = absurd h
-sign-is (inf t) s a c h = absurd h
-sign-is (fin t m e) s a c h = h .0
-
-unit-power : (u v : ℕ) → u ≤ v → 2 ^ u * 2 ^ (v - u) ≡ 2 ^ v
-unit-power u v l = sym (pow-add 2 u (v - u)) ∙ ap (λ (z : ℕ). 2 ^ z) (add-sub-of-le l)
-
--- in the finer units of 2 ^ -v
-finer : (x : Float) (s : Bool) (a u v : ℕ) → u ≤ v → HasValue x s a (2 ^ u) → HasValue x s (a * 2 ^ (v - u)) (2 ^ v)
-finer nan s a u v l h = absurd h
-finer (inf t) s a u v l h = absurd h
-finer (fin t m e) s a u v l h = (
-  h .0,
-  ap (λ (z : ℕ). m * up e * z) (sym (unit-power u v l)) ∙ sym (mul-assoc (m * up e) (2 ^ u) (2 ^ (v - u))) ∙ ap (λ (z : ℕ). z * 2 ^ (v - u)) (h .1) ∙ mul-right-comm a (down e) (2 ^ (v - u)),
-)
-
--- a zero is zero in all units
-zero-value : (x : Float) (s : Bool) (a b c d : ℕ) → 0 < c → a ≡ 0 → b ≡ 0 → HasValue x s a c → HasValue x s b d
-zero-value nan s a b c d C z y h = absurd h
-zero-value (inf t) s a b c d C z y h = absurd h
-zero-value (fin t m e) s a b c d C z y h =
-    let n : m * up e ≡ 0 = eq-of-mul-eq-mul-right c C (m * up e) 0 (h .1 ∙ ap (λ (i : ℕ). i * down e) z ∙ zero-mul (down e) ∙ sym (zero-mul c)) in
-    (h .0, ap (λ (i : ℕ). i * d) n ∙ zero-mul d ∙ sym (ap (λ (i : ℕ). i * down e) y ∙ zero-mul (down e)))
-
+-- a zero is at every level
 zero-level : (k : ℕ) (l : Level) (x y : Float) (t : Times (l .power * k) x y) → t .up ≡ 0 → Scaled l k x y
 zero-level k l x y t z =
     let P = 2 ^ (l .power * k) in
@@ -63,39 +41,42 @@ zero-level k l x y t z =
       count = 0;
       few = zero-le;
       here = zero-value x (t .sign) (t .up) 0 (t .over) (2 ^ l .unit) (t .some) z refl (t .here);
-      there = zero-value y (t .sign) (t .up * P) (0 * P) (t .over) (2 ^ l .unit) (t .some) (ap (λ (i : ℕ). i * P) z ∙ zero-mul P) (zero-mul P) (t .there);
+      there = zero-value y (t .sign) (t .up * P) (0 * P) (t .over) (2 ^ l .unit) (t .some) (ap (λ (i : ℕ). i * P) z ∙ zero-mul P) (zero-mul P)
+          (t .there);
     }
 
 -- ---- narrowing
-narrow-of-value : (x : Float) (s : Bool) (a c : ℕ) → 0 < c → HasValue x s a c → narrowOf x ≡ round binary32 s a c
+pub narrow-of-value : (x : Float) (s : Bool) (a c : ℕ) → 0 < c → HasValue x s a c → narrowOf x ≡ round binary32 s a c
 unfolding narrowOf
 narrow-of-value nan s a c C h = absurd h
 narrow-of-value (inf t) s a c C h = absurd h
-narrow-of-value (fin t m e) s a c C h = ap (λ (b : Bool). round binary32 b (m * up e) (down e)) (h .0) ∙ round-same binary32 s (m * up e) (down e) a c (down-pos e) C (h .1)
+narrow-of-value (fin t m e) s a c C h =
+    ap (λ (b : Bool). round binary32 b (m * up e) (down e)) (h .0) ∙ round-same binary32 s (m * up e) (down e) a c (down-pos e) C (h .1)
 
 -- a level keeps its units through narrowing
 pub narrow-scaled : (top k : ℕ) (l : Level) (x y : Float) → k ≤ top → T (roomy binary32 top l) → Scaled l k x y → Scaled l k (narrowOf x) (narrowOf y)
 narrow-scaled top k l x y K R h =
-    let U = pow-pos (l .unit) in
-    subst (λ (z : Float). Scaled l k z (narrowOf y)) (sym (narrow-of-value x (h .sign) (h .count) (2 ^ l .unit) U (h .here)))
-    (subst (λ (z : Float). Scaled l k (round binary32 (h .sign) (h .count) (2 ^ l .unit)) z) (sym (narrow-of-value y (h .sign) (h .count * 2 ^ (l .power * k)) (2 ^ l .unit) U (h .there)))
-    (rounded binary32 top k l (h .sign) (h .count) K R (h .few)))
+    let is : (z : Float) (n : ℕ) → HasValue z (h .sign) n (2 ^ l .unit) → narrowOf z ≡ round binary32 (h .sign) n (2 ^ l .unit) =
+    λ z n. narrow-of-value z (h .sign) n (2 ^ l .unit) (pow-pos (l .unit)) in
+    rw (is x (h .count) (h .here), is y (h .count * 2 ^ (l .power * k)) (h .there))
+    (rounded binary32 top k l (h .sign) (h .count) K R (h .few))
 
 -- 2 ^ -u is a value of f32
 least : (u : ℕ) → u ≤ 149 → HasValue (round binary32 false 1 (2 ^ u)) false 1 (2 ^ u)
-least u U =
-    round-exact binary32 false 1 (2 ^ u) 1 (149 - u) (pow-pos u) (lit< tt) (lt-of-le-of-lt (le-of-eq (one-mul (2 ^ (149 - u)))) (pow-lt (let q : 149 - u < 277 = omega arith in q)))
-    (ap (λ (i : ℕ). 1 * i) (sym (unit-power u 149 U) ∙ mul-comm (2 ^ u) (2 ^ (149 - u))) ∙ sym (mul-assoc 1 (2 ^ (149 - u)) (2 ^ u)))
+least u U = exact binary32 u U false 1 1 (149 - u) (lit< tt) (pow-lt {i = 0} (let q : 0 < 128 + u = omega arith in q)) refl
 
 -- so what is at least that is so narrowed, unless it is zero
-narrow-low : (z : Float) (s : Bool) (a c n d u : ℕ) → u ≤ 149 → 0 < c → (0 < a → c ≤ a * 2 ^ u) → HasValue z false a c → HasValue (narrowOf z) s n d → 0 < n → d ≤ n * 2 ^ u
+narrow-low : (z : Float) (s : Bool) (a c n d u : ℕ) → u ≤ 149 → 0 < c → (0 < a → c ≤ a * 2 ^ u) → HasValue z false a c → HasValue (narrowOf z) s n d
+    → 0 < n → d ≤ n * 2 ^ u
 narrow-low z s a c n d u U C lo h g N =
     let e : narrowOf z ≡ round binary32 false a c = narrow-of-value z false a c C h in
     let r = round binary32 false a c in
     let S : s ≡ false = sym (sign-is (narrowOf z) s n d g) ∙ ap negative e ∙ round-sign binary32 false a c in
     let v : HasValue r false n d = subst (λ (x : Float). HasValue x false n d) e (subst (λ (b : Bool). HasValue (narrowOf z) b n d) S g) in
     elim (eq-zero-or-pos a) [
-      | inl A ↦ absurd (positive-of-value (fin false 0 (pos 0)) n d (subst (λ (x : Float). HasValue x false n d) (ap (λ (i : ℕ). round binary32 false i c) A ∙ round-zero binary32 false c C) v) N)
+      | inl A ↦
+          let o : r ≡ fin false 0 (pos 0) = ap (λ (i : ℕ). round binary32 false i c) A ∙ round-zero binary32 false c C in
+          absurd (positive-of-value (fin false 0 (pos 0)) n d (subst (λ (x : Float). HasValue x false n d) o v) N)
       | inr A ↦
           let m = round binary32 false 1 (2 ^ u) in
           le-trans (le-of-eq (sym (one-mul d)))
@@ -104,17 +85,11 @@ narrow-low z s a c n d u U C lo h g N =
     ]
 
 -- ---- the root
-room : (f : Format) (top : ℕ) (l : Level) → T (roomy f top l) → (l .unit ≤ low f) × (l .most * 2 ^ (l .digits + l .power * top) < 2 ^ (suc (emax f) + l .unit))
-room f top l R =
-    let A = leb (l .unit) (low f) in
-    let B = ltb (l .most) (2 ^ prec f) in
-    let C = ltb (l .most * 2 ^ (l .digits + l .power * top)) (2 ^ (suc (emax f) + l .unit)) in
-    (leb→le (l .unit) (low f) (and-l A B (and-l (A && B) C R)), ltb→lt (l .most * 2 ^ (l .digits + l .power * top)) (2 ^ (suc (emax f) + l .unit)) (and-r (A && B) C R))
-
 counted : (a : ℕ) → 0 < rootValue (a * 2 ^ 1074) → 0 < a
 counted a h = elim (eq-zero-or-pos a) [ inl z ↦ absurd (lt-irrefl 0 (subst (λ (n : ℕ). 0 < n) (no-root a z) h)) | inr p ↦ p ]
 
-module _ (top k p : ℕ) (l : Level) (x y : Float) (K : k ≤ top) (R : T (roomy binary64 top l)) (P : l .power ≡ p + p) (s : negative x ≡ false) (h : Scaled l k x y) where
+module _ (top k p : ℕ) (l : Level) (x y : Float) (K : k ≤ top) (R : T (roomy binary64 top l)) (P : l .power ≡ p + p) (s : negative x ≡ false)
+    (h : Scaled l k x y) where
   -- x in units of 2 ^ -1074
   abbrev units : ℕ
   units = h .count * 2 ^ (1074 - l .unit)
@@ -123,7 +98,7 @@ module _ (top k p : ℕ) (l : Level) (x y : Float) (K : k ≤ top) (R : T (roomy
   plus = sym (sign-is x (h .sign) (h .count) (2 ^ l .unit) (h .here)) ∙ s
 
   here : HasValue x false units (2 ^ 1074)
-  here = subst (λ (b : Bool). HasValue x b units (2 ^ 1074)) plus (finer x (h .sign) (h .count) (l .unit) 1074 (room binary64 top l R .0) (h .here))
+  here = subst (λ (b : Bool). HasValue x b units (2 ^ 1074)) plus (to-finer x (h .sign) (h .count) (l .unit) 1074 (room binary64 top l R .0) (h .here))
 
   factor : h .count * 2 ^ (l .power * k) * 2 ^ (1074 - l .unit) ≡ units * 2 ^ (p * k + p * k)
   factor = mul-right-comm (h .count) (2 ^ (l .power * k)) (2 ^ (1074 - l .unit)) ∙ ap (λ (j : ℕ). units * 2 ^ j) (ap (λ (j : ℕ). j * k) P ∙ add-mul p p k)
@@ -131,16 +106,13 @@ module _ (top k p : ℕ) (l : Level) (x y : Float) (K : k ≤ top) (R : T (roomy
   there : HasValue y false (units * 2 ^ (p * k + p * k)) (2 ^ 1074)
   there =
       subst (λ (b : Bool). HasValue y b (units * 2 ^ (p * k + p * k)) (2 ^ 1074)) plus
-      (subst (λ (n : ℕ). HasValue y (h .sign) n (2 ^ 1074)) factor (finer y (h .sign) (h .count * 2 ^ (l .power * k)) (l .unit) 1074 (room binary64 top l R .0) (h .there)))
+      (subst (λ (n : ℕ). HasValue y (h .sign) n (2 ^ 1074)) factor
+      (to-finer y (h .sign) (h .count * 2 ^ (l .power * k)) (l .unit) 1074 (room binary64 top l R .0) (h .there)))
 
   under : units * 2 ^ (p * k + p * k) < 2 ^ 2098
   under =
-      let few : h .count * 2 ^ (l .power * k) ≤ l .most * 2 ^ (l .digits + l .power * top) =
-      le-trans (mul-le-mul (h .few) (pow-mono (mul-le-mul-left (l .power) K)))
-      (le-of-eq (mul-assoc (l .most) (2 ^ l .digits) (2 ^ (l .power * top)) ∙ ap (λ (n : ℕ). l .most * n) (sym (pow-add 2 (l .digits) (l .power * top))))) in
       subst (λ (n : ℕ). n < 2 ^ 2098) factor
-      (subst (λ (j : ℕ). h .count * 2 ^ (l .power * k) * 2 ^ (1074 - l .unit) < 2 ^ j) (let W = room binary64 top l R .0 in let e : 1024 + l .unit + (1074 - l .unit) ≡ 2098 = omega arith in e)
-      (shl-lt (1024 + l .unit) (1074 - l .unit) (lt-of-le-of-lt few (room binary64 top l R .1))))
+      (no-overflow binary64 (l .unit) (room binary64 top l R .0) (h .count * 2 ^ (l .power * k)) (in-range binary64 top k l (h .count) K R (h .few)))
 
   abbrev root-pair : Times (p * k) (rootOf x) (rootOf y)
   root-pair =
@@ -149,15 +121,17 @@ module _ (top k p : ℕ) (l : Level) (x y : Float) (K : k ≤ top) (R : T (roomy
         up = rootValue (units * 2 ^ 1074);
         over = 2 ^ 1074;
         some = pow-pos 1074;
-        here = root-value x units here (lt-of-le-of-lt (le-trans (le-of-eq (sym (mul-one units))) (mul-le-mul-left units (pow-pos (p * k + p * k)))) under);
-        there = subst (λ (n : ℕ). HasValue (rootOf y) false n (2 ^ 1074)) (root-value-shift units (p * k)) (root-value y (units * 2 ^ (p * k + p * k)) there under);
+        here = root-value x units here (lt-of-le-of-lt (grows units (p * k + p * k)) under);
+        there = subst (λ (n : ℕ). HasValue (rootOf y) false n (2 ^ 1074)) (root-value-shift units (p * k))
+            (root-value y (units * 2 ^ (p * k + p * k)) there under);
       }
 
   root-fits : 0 < rootValue (units * 2 ^ 1074) → T (fits binary64 (rootOf x))
   root-fits some =
       let n = units * 2 ^ 1074 in
       let q = counted units some in
-      subst (λ (z : Float). T (fits binary64 z)) (sym (root-of-value x units here q ∙ root-units-is n)) (units-fits binary64 false (rootKept n) (rootDrop n) (kept-high n (units-long units q)))
+      subst (λ (z : Float). T (fits binary64 z)) (sym (root-of-value x units here q ∙ root-units-is n))
+      (units-fits binary64 false (rootKept n) (rootDrop n) (kept-high n (units-long units q)))
 
 -- by values alone
 pub root-times : (top k p : ℕ) (l : Level) (x y : Float) → k ≤ top → T (roomy binary64 top l) → l .power ≡ p + p → negative x ≡ false → Scaled l k x y
@@ -176,13 +150,13 @@ module _ (c u v : ℕ) (U : v ≡ u + u) (W : v ≤ 1074) where
   n = a * 2 ^ 1074
 
   n-is : n ≡ c * 2 ^ (t + t)
-  n-is = mul-assoc c (2 ^ (1074 - v)) (2 ^ 1074) ∙ ap (λ (i : ℕ). c * i) (sym (pow-add 2 (1074 - v) 1074) ∙ ap (λ (i : ℕ). 2 ^ i) (let e : 1074 - v + 1074 ≡ t + t = omega arith in e))
+  n-is = shift c (1074 - v) 1074 ∙ ap (λ (i : ℕ). c * 2 ^ i) (let e : 1074 - v + 1074 ≡ t + t = omega arith in e)
 
   large : 53 ≤ t
   large = omega arith
 
   up-to : 2 ^ t * 2 ^ u ≡ 2 ^ 1074
-  up-to = mul-comm (2 ^ t) (2 ^ u) ∙ unit-power u 1074 (let q : u ≤ 1074 = omega arith in q)
+  up-to = sym (pow-add 2 t u) ∙ ap (λ (i : ℕ). 2 ^ i) (let e : t + u ≡ 1074 = omega arith in e)
 
   long : 104 < size (2 ^ (t + t))
   long = size-gt (2 ^ (t + t)) 104 (pow-mono (let q : 104 ≤ t + t = omega arith in q))
@@ -190,22 +164,26 @@ module _ (c u v : ℕ) (U : v ≡ u + u) (W : v ≤ 1074) where
   root-low : 0 < rootValue n → 2 ^ 1074 ≤ rootValue n * 2 ^ u
   root-low some =
       let P = 2 ^ (t + t) in
-      let least : P ≤ n = le-trans (le-of-eq (sym (one-mul P))) (le-trans (mul-le-mul-right P (first-pos c (2 ^ (1074 - v)) (counted a some))) (le-of-eq (sym n-is))) in
+      let least : P ≤ n = le-trans (le-multiple c P (first-pos c (2 ^ (1074 - v)) (counted a some))) (le-of-eq (sym n-is)) in
       le-trans (le-of-eq (sym up-to)) (mul-le-mul-right (2 ^ u) (le-trans (le-of-eq (sym (root-power t large))) (root-value-mono P n long least)))
 
   root-high : (i : ℕ) → 0 < rootValue n → c ≤ 2 ^ (i + i) → rootValue n * 2 ^ u ≤ 2 ^ i * 2 ^ 1074
   root-high i some h =
       let w = i + t in
-      let most : n ≤ 2 ^ (w + w) = le-trans (le-of-eq n-is) (le-trans (mul-le-mul-right (2 ^ (t + t)) h) (le-of-eq (sym (pow-add 2 (i + i) (t + t)) ∙ ap (λ (j : ℕ). 2 ^ j) (pairs i t)))) in
-      le-trans (mul-le-mul-right (2 ^ u) (le-trans (root-value-mono n (2 ^ (w + w)) (units-long a (counted a some)) most) (le-of-eq (root-power w (le-trans large (le-add-left t i)) ∙ pow-add 2 i t))))
+      let most : n ≤ 2 ^ (w + w) =
+      le-trans (le-of-eq n-is)
+      (le-trans (mul-le-mul-right (2 ^ (t + t)) h) (le-of-eq (sym (pow-add 2 (i + i) (t + t)) ∙ ap (λ (j : ℕ). 2 ^ j) (pairs i t)))) in
+      le-trans (mul-le-mul-right (2 ^ u)
+      (le-trans (root-value-mono n (2 ^ (w + w)) (units-long a (counted a some)) most)
+      (le-of-eq (root-power w (le-trans large (le-add-left t i)) ∙ pow-add 2 i t))))
       (le-of-eq (mul-assoc (2 ^ i) (2 ^ t) (2 ^ u) ∙ ap (λ (j : ℕ). 2 ^ i * j) up-to))
     where
       pairs : (i t : ℕ) → i + i + (t + t) ≡ i + t + (i + t)
       pairs i t = omega arith
 
 -- x is at most 2 ^ (i + i) units of 2 ^ -(u + u)
-pub root-scaled : (top k u i p : ℕ) (l : Level) (x y : Float) → k ≤ top → T (roomy binary64 top l) → l .unit ≡ u + u → l .power ≡ p + p → T (leb (l .most * 2 ^ l .digits) (2 ^ (i + i)))
-    → negative x ≡ false → Scaled l k x y → Scaled (grain binary64 u i p) k (rootOf x) (rootOf y)
+pub root-scaled : (top k u i p : ℕ) (l : Level) (x y : Float) → k ≤ top → T (roomy binary64 top l) → l .unit ≡ u + u → l .power ≡ p + p
+    → T (leb (l .most * 2 ^ l .digits) (2 ^ (i + i))) → negative x ≡ false → Scaled l k x y → Scaled (grain binary64 u i p) k (rootOf x) (rootOf y)
 root-scaled top k u i p l x y K R U P I s h =
     let r = root-pair top k p l x y K R P s h in
     let W = room binary64 top l R .0 in
@@ -216,16 +194,19 @@ root-scaled top k u i p l x y K R U P I s h =
           (root-high (h .count) u (l .unit) U W i q (le-trans (h .few) (leb→le (l .most * 2 ^ l .digits) (2 ^ (i + i)) I)))
     ]
 
-pub narrow-root-scaled : (top k u i p : ℕ) (l : Level) (x y : Float) → k ≤ top → T (roomy binary64 top l) → l .unit ≡ u + u → l .power ≡ p + p → T (leb (l .most * 2 ^ l .digits) (2 ^ (i + i)))
-    → T (roomy binary32 top (grain binary64 u i p)) → negative x ≡ false → Scaled l k x y → Scaled (grain binary32 u i p) k (narrowOf (rootOf x)) (narrowOf (rootOf y))
+pub narrow-root-scaled : (top k u i p : ℕ) (l : Level) (x y : Float) → k ≤ top → T (roomy binary64 top l) → l .unit ≡ u + u → l .power ≡ p + p
+    → T (leb (l .most * 2 ^ l .digits) (2 ^ (i + i))) → T (roomy binary32 top (grain binary64 u i p)) → negative x ≡ false → Scaled l k x y
+    → Scaled (grain binary32 u i p) k (narrowOf (rootOf x)) (narrowOf (rootOf y))
 narrow-root-scaled top k u i p l x y K R U P I N s h =
     let r = root-pair top k p l x y K R P s h in
     let g = grain binary64 u i p in
     let w = narrow-scaled top k g (rootOf x) (rootOf y) K N (root-scaled top k u i p l x y K R U P I s h) in
     regrained binary32 k u i p (narrowOf (rootOf x)) (narrowOf (rootOf y))
-    (subst (λ (z : Float). T (fits binary32 z)) (sym (narrow-of-value (rootOf x) false (r .up) (2 ^ 1074) (pow-pos 1074) (r .here))) (round-fits binary32 false (r .up) (2 ^ 1074)))
+    (subst (λ (z : Float). T (fits binary32 z)) (sym (narrow-of-value (rootOf x) false (r .up) (2 ^ 1074) (pow-pos 1074) (r .here)))
+    (round-fits binary32 false (r .up) (2 ^ 1074)))
     (record { sign = w .sign; up = w .count; over = 2 ^ (u + 52); some = pow-pos (u + 52); here = w .here; there = w .there })
-    (narrow-low (rootOf x) (w .sign) (r .up) (2 ^ 1074) (w .count) (2 ^ (u + 52)) u (part u (room binary32 top g N .0)) (pow-pos 1074) (root-low (h .count) u (l .unit) U (room binary64 top l R .0)) (r .here) (w .here))
+    (narrow-low (rootOf x) (w .sign) (r .up) (2 ^ 1074) (w .count) (2 ^ (u + 52)) u (part u (room binary32 top g N .0)) (pow-pos 1074)
+    (root-low (h .count) u (l .unit) U (room binary64 top l R .0)) (r .here) (w .here))
     (le-trans (mul-le-mul-right (2 ^ u) (w .few)) (le-of-eq (powers i u)))
   where
     part : (u : ℕ) → u + 52 ≤ 149 → u ≤ 149

@@ -1,17 +1,18 @@
--- `rootUnits n` is q * 2 ^ k units, of 53 digits, and no other multiple of 2 ^ k is nearer to the root of n: (2 * q - 1) / 2 and (2 * q + 1) / 2 times 2 ^ k enclose it.
--- Said with both sides squared and times 4. Assumes nothing.
+-- `rootUnits n` is q * 2 ^ k units, of 53 digits, and no other multiple of 2 ^ k is nearer to the root of n: (2 * q - 1) / 2 and
+-- (2 * q + 1) / 2 times 2 ^ k enclose it. That is said with both sides squared and times 4.
+-- Assumes nothing.
 use mathlib.Core.Path.{_≡_, refl, sym, ap, _∙_, subst}
-use mathlib.Core.Bool.{Bool, true, false, not, cond}
-use Prim.Native.Nat.{ℕ, zero, suc, _+_, _-_, _*_, _/_, _%_, _^_, _≤_, _<_}
-use native.Mathlib.Nat.{le-trans, le-of-eq, le-of-lt, lt-of-lt-of-le, lt-of-le-of-lt, lt-of-not-le, not-le-of-lt, mul-comm, mul-assoc, mul-right-comm, mul-add, add-mul, mul-le-mul, mul-le-mul-left, mul-le-mul-right, mul-lt-mul-of-pos-right, le-div-iff-mul-le, div-lt-iff-lt-mul, mul-div-cancel}
+use mathlib.Core.Bool.{Bool, true, false, not}
+use Prim.Native.Nat.{ℕ, _+_, _-_, _*_, _/_, _^_, _≤_, _<_}
+use native.Mathlib.Nat.{le-trans, le-of-eq, lt-of-lt-of-le, lt-of-le-of-lt, mul-assoc, mul-add, add-mul, mul-le-mul, mul-le-mul-right, mul-lt-mul-of-pos-right, le-div-iff-mul-le, div-lt-iff-lt-mul}
 use native.Mathlib.Omega.{arith}
 use lib.Dec.{T, ltb, ltb→lt, nltb→le}
-use lib.Pow.{pow-add, pow-pos, pow-mono, pow-lt}
-use lib.Ieee.{Float, binary64, size, units}
-use lib.Ieee.Digits.{size-lt, size-le, size-reaches}
+use lib.Pow.{pow-add, pow-pos, pow-mono}
+use lib.Ieee.{binary64, size, units}
+use lib.Ieee.Digits.{size-lt, size-reaches}
+use Rattle.ieee.specs.Numbers.{four-squares, le-of-next}
 use Rattle.ieee.specs.Root.{more, wholeRoot, rootDrop, rootKept, rootUnits}
 use Rattle.ieee.specs.WholeRoot.{IsRoot, whole-root, square-back}
-use Rattle.ieee.specs.RootUnits.{size-gt}
 
 pub root-units-is : (n : ℕ) → rootUnits n ≡ units binary64 false (rootKept n) (rootDrop n)
 unfolding rootUnits
@@ -21,23 +22,23 @@ pub record NearestRoot (n q k : ℕ) : Type 0 where
   pub low : (2 * q - 1) * (2 * q - 1) * 2 ^ (k + k) < 4 * n
   pub high : 4 * n ≤ (2 * q + 1) * (2 * q + 1) * 2 ^ (k + k)
 
-four : (a : ℕ) → 2 * a * (2 * a) ≡ 4 * (a * a)
-four a = mul-assoc 2 a (2 * a) ∙ ap (λ (x : ℕ). 2 * x) (sym (mul-assoc a 2 a) ∙ ap (λ (x : ℕ). x * a) (mul-comm a 2) ∙ mul-assoc 2 a a) ∙ sym (mul-assoc 2 2 (a * a))
-
 -- 0 < s, and s is the root of n cut to multiples of 2 ^ k
-choose : (n s P : ℕ) (b : Bool) → (T b → (2 * s + 1) * (2 * s + 1) * P < 4 * n) → (T (not b) → 4 * n ≤ (2 * s + 1) * (2 * s + 1) * P) → 0 < s → 0 < P → s * s * P ≤ n → n < (s + 1) * (s + 1) * P
+choose : (n s P : ℕ) (b : Bool) → (T b → (2 * s + 1) * (2 * s + 1) * P < 4 * n) → (T (not b) → 4 * n ≤ (2 * s + 1) * (2 * s + 1) * P)
+    → 0 < s → 0 < P → s * s * P ≤ n → n < (s + 1) * (s + 1) * P
     → ((2 * more b s - 1) * (2 * more b s - 1) * P < 4 * n) × (4 * n ≤ (2 * more b s + 1) * (2 * more b s + 1) * P)
 choose n s P true y z S p lo hi =
     let a : 2 * (s + 1) - 1 ≡ 2 * s + 1 = omega arith in
     let u : 4 * n ≤ 4 * ((s + 1) * (s + 1) * P) = omega arith in
-    let v : 2 * (s + 1) * (2 * (s + 1)) * P ≡ 4 * ((s + 1) * (s + 1) * P) = ap (λ (x : ℕ). x * P) (four (s + 1)) ∙ mul-assoc 4 ((s + 1) * (s + 1)) P in
-    let w : 2 * (s + 1) * (2 * (s + 1)) * P ≤ (2 * (s + 1) + 1) * (2 * (s + 1) + 1) * P = mul-le-mul-right P (mul-le-mul (up (2 * (s + 1))) (up (2 * (s + 1)))) in
+    let v : 2 * (s + 1) * (2 * (s + 1)) * P ≡ 4 * ((s + 1) * (s + 1) * P) =
+    ap (λ (x : ℕ). x * P) (four-squares (s + 1)) ∙ mul-assoc 4 ((s + 1) * (s + 1)) P in
+    let w : 2 * (s + 1) * (2 * (s + 1)) * P ≤ (2 * (s + 1) + 1) * (2 * (s + 1) + 1) * P =
+    mul-le-mul-right P (mul-le-mul (up (2 * (s + 1))) (up (2 * (s + 1)))) in
     (subst (λ (x : ℕ). x * x * P < 4 * n) (sym a) (y tt), omega arith)
   where
     up : (x : ℕ) → x ≤ x + 1
     up x = omega arith
 choose n s P false y z S p lo hi =
-    let v : 2 * s * (2 * s) * P ≡ 4 * (s * s * P) = ap (λ (x : ℕ). x * P) (four s) ∙ mul-assoc 4 (s * s) P in
+    let v : 2 * s * (2 * s) * P ≡ 4 * (s * s * P) = ap (λ (x : ℕ). x * P) (four-squares s) ∙ mul-assoc 4 (s * s) P in
     let w : (2 * s - 1) * (2 * s - 1) * P < 2 * s * (2 * s) * P = mul-lt-mul-of-pos-right (smaller (2 * s) (twice s S)) p in
     (omega arith, z tt)
   where
@@ -72,13 +73,14 @@ module _ (n : ℕ) (big : 104 < size n) where
       div-lt-iff-lt-mul (pow-pos (k + k)) .1 (lt-of-lt-of-le (size-lt n) (le-trans (pow-mono (odd' (size n) big)) (le-of-eq (pow-add 2 106 (k + k)))))
 
   s-low : 4503599627370496 ≤ wholeRoot (n / 2 ^ (rootDrop n + rootDrop n))
-  s-low = le-of-next (square-back 4503599627370496 (wholeRoot (n / 2 ^ (rootDrop n + rootDrop n)) + 1) (lt-of-le-of-lt cut-low (whole-root (n / 2 ^ (rootDrop n + rootDrop n)) .high)))
-    where
-      le-of-next : {a b : ℕ} → a < b + 1 → a ≤ b
-      le-of-next {a} {b} h = omega arith
+  s-low =
+      let c = n / 2 ^ (rootDrop n + rootDrop n) in
+      le-of-next (square-back 4503599627370496 (wholeRoot c + 1) (lt-of-le-of-lt cut-low (whole-root c .high)))
 
   s-high : wholeRoot (n / 2 ^ (rootDrop n + rootDrop n)) < 9007199254740992
-  s-high = square-back (wholeRoot (n / 2 ^ (rootDrop n + rootDrop n))) 9007199254740992 (lt-of-le-of-lt (whole-root (n / 2 ^ (rootDrop n + rootDrop n)) .low) cut-high)
+  s-high =
+      let c = n / 2 ^ (rootDrop n + rootDrop n) in
+      square-back (wholeRoot c) 9007199254740992 (lt-of-le-of-lt (whole-root c .low) cut-high)
 
   abbrev half : ℕ
   half = 2 * wholeRoot (n / 2 ^ (rootDrop n + rootDrop n)) + 1

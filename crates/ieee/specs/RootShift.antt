@@ -1,20 +1,22 @@
 -- The root's digits do not move under a factor 4 ^ t: 4 ^ t times a number has a root of the same 53 digits, t places further up. First
--- for whole numbers, then for an f64 of a units, which are 2 ^ -1074 each. Assumes nothing.
+-- for whole numbers, then for an f64 of a units, which are 2 ^ -1074 each.
+-- Assumes nothing.
 use mathlib.Core.Path.{_≡_, refl, sym, ap, _∙_, subst}
 use mathlib.Core.Bool.{Bool, false}
 use mathlib.Core.Logic.{inl, inr}
 use Prim.Native.Nat.{ℕ, zero, suc, _+_, _-_, _*_, _/_, _^_, _≤_, _<_}
-use native.Mathlib.Nat.{le-trans, le-of-eq, le-of-lt, lt-of-lt-of-le, lt-of-le-of-lt, lt-irrefl, zero-mul, eq-zero-or-pos, zero-lt-suc, mul-comm, mul-assoc, mul-right-comm, mul-pos, mul-le-mul, mul-le-mul-right, mul-lt-mul-of-pos-right, lt-of-mul-lt-mul-right}
+use native.Mathlib.Nat.{le-trans, le-of-eq, le-of-lt, lt-of-lt-of-le, lt-of-le-of-lt, zero-mul, eq-zero-or-pos, zero-lt-suc, mul-comm, mul-assoc, mul-right-comm, mul-pos, mul-le-mul, mul-le-mul-right}
 use native.Mathlib.Omega.{arith}
-use lib.Dec.{ltb, ltb→lt, lt→ltb, lit<, lit≤}
+use lib.Dec.{ltb, lit<, lit≤}
 use lib.Pow.{pow-add, pow-pos, pow-mono, shl-lt}
-use lib.Ieee.{Float, nan, inf, fin, binary64, down, size}
+use lib.Ieee.{Float, nan, inf, fin, binary64, up, down, size}
 use lib.Ieee.Digits.{size-lt, size-le, size-reaches}
 use lib.Ieee.Fits.{up-pos}
 use lib.Ieee.Nearest.{div-same}
 use lib.Ieee.Exact.{HasValue, units-val}
+use Rattle.ieee.specs.Numbers.{ltb-scale, le-multiple, no-product, shift, size-gt}
 use Rattle.ieee.specs.Root.{more, wholeRoot, rootDrop, rootKept, rootOf}
-use Rattle.ieee.specs.RootUnits.{same-test, size-gt, root-of-value}
+use Rattle.ieee.specs.RootUnits.{root-of-value}
 use Rattle.ieee.specs.RootNear.{root-units-is, kept-high}
 use Rattle.ieee.specs.RootBest.{rootValue}
 
@@ -57,11 +59,7 @@ module _ (n t : ℕ) (big : 104 < size n) where
       let P = 2 ^ (t + t) in
       let e : h * 2 ^ (k + t + (k + t)) ≡ h * 2 ^ (k + k) * P = ap (λ (x : ℕ). h * x) (twice k) ∙ sym (mul-assoc h (2 ^ (k + k)) P) in
       let f : 4 * (n * P) ≡ 4 * n * P = sym (mul-assoc 4 n P) in
-      ap (λ (x : ℕ). ltb x (4 * (n * P))) e
-      ∙ ap (λ (x : ℕ). ltb (h * 2 ^ (k + k) * P) x) f
-      ∙ same-test (ltb (h * 2 ^ (k + k) * P) (4 * n * P)) (ltb (h * 2 ^ (k + k)) (4 * n))
-      (λ y. lt→ltb _ _ (lt-of-mul-lt-mul-right P (ltb→lt _ _ y)))
-      (λ y. lt→ltb _ _ (mul-lt-mul-of-pos-right (ltb→lt _ _ y) (pow-pos (t + t))))
+      (λ i. ltb (e i) (f i)) ∙ ltb-scale (h * 2 ^ (k + k)) (4 * n) P (pow-pos (t + t))
 
   kept-shift : rootKept (n * 2 ^ (t + t)) ≡ rootKept n
   kept-shift =
@@ -75,8 +73,7 @@ module _ (n t : ℕ) (big : 104 < size n) where
   value-shift =
       ap (λ (q : ℕ). q * 2 ^ rootDrop (n * 2 ^ (t + t))) kept-shift
       ∙ ap (λ (k : ℕ). rootKept n * 2 ^ k) drop-shift
-      ∙ ap (λ (z : ℕ). rootKept n * z) (pow-add 2 (rootDrop n) t)
-      ∙ sym (mul-assoc (rootKept n) (2 ^ rootDrop n) (2 ^ t))
+      ∙ sym (shift (rootKept n) (rootDrop n) t)
 
 -- so the root of 4 ^ t is 2 ^ t
 at-53 : rootValue (2 ^ 106) ≡ 2 ^ 53
@@ -101,17 +98,15 @@ root-power t h =
 -- ---- an f64 of a units
 -- the root has all of its 53 digits
 pub units-long : (a : ℕ) → 0 < a → 104 < size (a * 2 ^ 1074)
-units-long a p = lt-of-lt-of-le (lit< tt) (le-of-lt (size-gt (a * 2 ^ 1074) 1074 (le-trans (le-of-eq (one (2 ^ 1074))) (mul-le-mul-right (2 ^ 1074) p))))
-  where
-    one : (n : ℕ) → n ≡ 1 * n
-    one n = omega arith
+units-long a p = lt-of-lt-of-le (lit< tt) (le-of-lt (size-gt (a * 2 ^ 1074) 1074 (le-multiple a (2 ^ 1074) p)))
 
 -- below 2 ^ 1024, as every f64 is
 root-under : (a : ℕ) → 0 < a → a < 2 ^ 2098 → rootValue (a * 2 ^ 1074) < 2 ^ 2098
 root-under a p h =
     let n = a * 2 ^ 1074 in
     let z : size n ≤ 3172 = size-le n 3172 (shl-lt 2098 1074 h) in
-    lt-of-le-of-lt (mul-le-mul (kept-high n (units-long a p)) (pow-mono (few (size n) z))) (subst (λ (x : ℕ). x < 2 ^ 2098) (pow-add 2 53 1533) (lit< tt))
+    lt-of-le-of-lt (mul-le-mul (kept-high n (units-long a p)) (pow-mono (few (size n) z)))
+    (subst (λ (x : ℕ). x < 2 ^ 2098) (pow-add 2 53 1533) (lit< tt))
   where
     few : (z : ℕ) → z ≤ 3172 → (z + 1) / 2 - 53 ≤ 1533
     few z h = omega arith
@@ -134,19 +129,21 @@ unfolding rootOf
 root-of-zero nan h = absurd h
 root-of-zero (inf t) h = absurd h
 root-of-zero (fin t zero e) h = refl
-root-of-zero (fin t (suc m) e) h = absurd (lt-irrefl 0 (subst (λ (x : ℕ). 0 < x) (h .1 ∙ zero-mul (down e)) (mul-pos (mul-pos (zero-lt-suc m) (up-pos e)) (pow-pos 1074))))
+root-of-zero (fin t (suc m) e) h = absurd (no-product (suc m * up e) (2 ^ 1074) (mul-pos (zero-lt-suc m) (up-pos e)) (pow-pos 1074) (h .1 ∙ zero-mul (down e)))
 
 -- the root of an f64 of a units, in units
 pub root-value : (x : Float) (a : ℕ) → HasValue x false a (2 ^ 1074) → a < 2 ^ 2098 → HasValue (rootOf x) false (rootValue (a * 2 ^ 1074)) (2 ^ 1074)
 root-value x a h l = elim (eq-zero-or-pos a) [
   | inl z ↦
       let k : HasValue x false 0 (2 ^ 1074) = subst (λ (n : ℕ). HasValue x false n (2 ^ 1074)) z h in
-      subst (λ (n : ℕ). HasValue (rootOf x) false n (2 ^ 1074)) (sym (no-root a z)) (subst (λ (r : Float). HasValue r false 0 (2 ^ 1074)) (sym (root-of-zero x k)) k)
+      subst (λ (n : ℕ). HasValue (rootOf x) false n (2 ^ 1074)) (sym (no-root a z))
+      (subst (λ (r : Float). HasValue r false 0 (2 ^ 1074)) (sym (root-of-zero x k)) k)
   | inr p ↦ root-value-pos x a h p l
 ]
 
 pub root-value-shift : (a t : ℕ) → rootValue (a * 2 ^ (t + t) * 2 ^ 1074) ≡ rootValue (a * 2 ^ 1074) * 2 ^ t
 root-value-shift a t = elim (eq-zero-or-pos a) [
-  | inl z ↦ no-root (a * 2 ^ (t + t)) (ap (λ (x : ℕ). x * 2 ^ (t + t)) z ∙ zero-mul (2 ^ (t + t))) ∙ sym (ap (λ (x : ℕ). x * 2 ^ t) (no-root a z) ∙ zero-mul (2 ^ t))
+  | inl z ↦
+      no-root (a * 2 ^ (t + t)) (ap (λ (x : ℕ). x * 2 ^ (t + t)) z ∙ zero-mul (2 ^ (t + t))) ∙ sym (ap (λ (x : ℕ). x * 2 ^ t) (no-root a z) ∙ zero-mul (2 ^ t))
   | inr p ↦ ap rootValue (mul-right-comm a (2 ^ (t + t)) (2 ^ 1074)) ∙ value-shift (a * 2 ^ 1074) t (units-long a p)
 ]

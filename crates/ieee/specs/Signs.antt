@@ -167,6 +167,10 @@ units-sign f s q k = go q (ltb (q * 2 ^ k) (2 ^ (low f + suc (emax f))))
 pub round-sign : (f : Format) (s : Bool) (n c : ℕ) → negative (round f s n c) ≡ s
 round-sign f s n c = ap negative (round-is f s n c) ∙ units-sign f s _ _
 
+pub unlike-false : (s : Bool) → unlike s false ≡ s
+unlike-false true = refl
+unlike-false false = refl
+
 unlike-self : (s : Bool) → unlike s s ≡ false
 unlike-self true = refl
 unlike-self false = refl

@@ -10,7 +10,8 @@ use lib.ListN.{length}
 use lib.Ieee.{Float, Format, add, fits}
 use lib.Ieee.Fits.{add-fits}
 use Rattle.ieee.specs.Zeros.{canon, plus-alike, plus-plain}
-use Rattle.ieee.specs.Gain.{Level, Scaled, roomy, roomy-fewer, many, plus-scaled, one-scaled, more-scaled}
+use Rattle.ieee.specs.Levels.{Level, Scaled, roomy, many}
+use Rattle.ieee.specs.Gain.{roomy-fewer, plus-scaled, one-scaled, more-scaled}
 
 -- s and then each of the list, added from the left, each sum rounded once
 unfoldable pub total : Format → Float → List Float → Float
@@ -38,7 +39,8 @@ further m a n h = omega arith
 
 next : (f : Format) (top k m n a : ℕ) (l : Level) (s t x y : Float) → k ≤ top → T (roomy f top (many n l)) → m + suc a ≤ n
     → Scaled (many m l) k s t → Scaled l k x y → Scaled (many (m + 1) l) k (add f s x) (add f t y)
-next f top k m n a l s t x y K R N h g = plus-scaled f top k m 1 l s t x y K (roomy-fewer f top (m + 1) n l (so-far (m + 1) a n (further m a n N)) R) h (one-scaled k l x y g)
+next f top k m n a l s t x y K R N h g =
+    plus-scaled f top k m 1 l s t x y K (roomy-fewer f top (m + 1) n l (so-far (m + 1) a n (further m a n N)) R) h (one-scaled k l x y g)
 
 -- ---- the sum, and the sums on the way
 pub total-scaled : (f : Format) (top k m n : ℕ) (l : Level) (s t : Float) (xs ys : List Float) → k ≤ top → T (roomy f top (many n l)) → m + length xs ≤ n
@@ -48,7 +50,8 @@ total-scaled f top k m n l s t [] [] K R N h g = more-scaled k m n l s t (so-far
 total-scaled f top k m n l s t [] (y ∷ ys) K R N h g = absurd g
 total-scaled f top k m n l s t (x ∷ xs) [] K R N h g = absurd g
 total-scaled f top k m n l s t (x ∷ xs) (y ∷ ys) K R N h g =
-    total-scaled f top k (m + 1) n l (add f s x) (add f t y) xs ys K R (further m (length xs) n N) (next f top k m n (length xs) l s t x y K R N h (g .0)) (g .1)
+    total-scaled f top k (m + 1) n l (add f s x) (add f t y) xs ys K R (further m (length xs) n N)
+    (next f top k m n (length xs) l s t x y K R N h (g .0)) (g .1)
 
 pub prefixes-scaled : (f : Format) (top k m n : ℕ) (l : Level) (s t : Float) (xs ys : List Float) → k ≤ top → T (roomy f top (many n l)) → m + length xs ≤ n
     → Scaled (many m l) k s t → Each (Scaled l k) xs ys → Each (Scaled (many n l) k) (prefixes f s xs) (prefixes f t ys)
@@ -58,11 +61,13 @@ prefixes-scaled f top k m n l s t [] (y ∷ ys) K R N h g = absurd g
 prefixes-scaled f top k m n l s t (x ∷ xs) [] K R N h g = absurd g
 prefixes-scaled f top k m n l s t (x ∷ xs) (y ∷ ys) K R N h g = (
   more-scaled k m n l s t (so-far m (suc (length xs)) n N) h,
-  prefixes-scaled f top k (m + 1) n l (add f s x) (add f t y) xs ys K R (further m (length xs) n N) (next f top k m n (length xs) l s t x y K R N h (g .0)) (g .1),
+  prefixes-scaled f top k (m + 1) n l (add f s x) (add f t y) xs ys K R (further m (length xs) n N)
+      (next f top k m n (length xs) l s t x y K R N h (g .0)) (g .1),
 )
 
 -- ---- the sign of a zero in a sum
-pub total-alike : (f : Format) (s t : Float) (xs ys : List Float) → canon s ≡ canon t → Each (λ x y. canon x ≡ canon y) xs ys → canon (total f s xs) ≡ canon (total f t ys)
+pub total-alike : (f : Format) (s t : Float) (xs ys : List Float) → canon s ≡ canon t → Each (λ x y. canon x ≡ canon y) xs ys
+    → canon (total f s xs) ≡ canon (total f t ys)
 unfolding total Each
 total-alike f s t [] [] h g = h
 total-alike f s t [] (y ∷ ys) h g = absurd g

@@ -4,14 +4,15 @@
 use mathlib.Core.Path.{_≡_, refl, sym, ap, _∙_}
 use mathlib.Core.Bool.{Bool, true, false, _||_, cond}
 use Prim.Native.Nat.{ℕ, zero, suc, _+_, _*_, _^_, _<_}
-use native.Mathlib.Nat.{zero-lt-suc, zero-mul, add-mul, mul-assoc, mul-comm, mul-right-comm, mul-mul-mul-comm, mul-pos, mul-lt-mul-of-pos-right, lt-of-mul-lt-mul-right, eq-of-mul-eq-mul-right}
+use native.Mathlib.Nat.{zero-lt-suc, zero-mul, add-mul, mul-assoc, mul-comm, mul-right-comm, mul-mul-mul-comm, mul-pos}
 use lib.IntN.{ℤ, pos}
-use lib.Dec.{T, ltb, eqb, ltb→lt, lt→ltb, eqb→eq, eqb·suc-zero}
+use lib.Dec.{ltb, eqb, eqb·suc-zero}
 use lib.Pow.{pow-pos}
 use lib.Ieee.{Float, nan, inf, fin, Format, up, down, unlike, round, below, level, div, lt, le}
-use lib.Ieee.Fits.{up-pos, down-pos, eq→eqb}
+use lib.Ieee.Fits.{up-pos, down-pos}
 use lib.Ieee.Exact.{HasValue}
 use lib.Ieee.Scale.{round-same}
+use Rattle.ieee.specs.Numbers.{ltb-scale, eqb-scale, zero-scale}
 
 pub record Times (k : ℕ) (x y : Float) : Type 0 where
   pub sign : Bool
@@ -23,29 +24,17 @@ pub record Times (k : ℕ) (x y : Float) : Type 0 where
 
 -- what carries no factor of its own: a zero, times anything
 pub zero-times : (k : ℕ) (s : Bool) → Times k (fin s 0 (pos 0)) (fin s 0 (pos 0))
-zero-times k s = record { sign = s; up = 0; over = 1; some = zero-lt-suc 0; here = (refl, refl); there = (refl, sym (ap (λ (z : ℕ). z * 1) (zero-mul (2 ^ k)))) }
+zero-times k s =
+    record {
+      sign = s;
+      up = 0;
+      over = 1;
+      some = zero-lt-suc 0;
+      here = (refl, refl);
+      there = (refl, sym (ap (λ (z : ℕ). z * 1) (zero-mul (2 ^ k))));
+    }
 
--- ---- tests on two numbers, both multiplied
-pub same-bool : (x y : Bool) → (T x → T y) → (T y → T x) → x ≡ y
-same-bool true true f g = refl
-same-bool true false f g = absurd (f tt)
-same-bool false true f g = absurd (g tt)
-same-bool false false f g = refl
-
-ltb-scale : (a b c : ℕ) → 0 < c → ltb (a * c) (b * c) ≡ ltb a b
-ltb-scale a b c C = same-bool (ltb (a * c) (b * c)) (ltb a b)
-    (λ t. lt→ltb a b (lt-of-mul-lt-mul-right c (ltb→lt (a * c) (b * c) t)))
-    (λ t. lt→ltb (a * c) (b * c) (mul-lt-mul-of-pos-right (ltb→lt a b t) C))
-
-pub eqb-same : (a b c d : ℕ) → (a ≡ b → c ≡ d) → (c ≡ d → a ≡ b) → eqb a b ≡ eqb c d
-eqb-same a b c d f g = same-bool (eqb a b) (eqb c d) (λ t. eq→eqb (f (eqb→eq a b t))) (λ t. eq→eqb (g (eqb→eq c d t)))
-
-eqb-scale : (a b c : ℕ) → 0 < c → eqb (a * c) (b * c) ≡ eqb a b
-eqb-scale a b c C = eqb-same (a * c) (b * c) a b (eq-of-mul-eq-mul-right c C a b) (ap (λ (z : ℕ). z * c))
-
-zero-scale : (a c : ℕ) → 0 < c → eqb (a * c) 0 ≡ eqb a 0
-zero-scale a c C = ap (λ (z : ℕ). eqb (a * c) z) (sym (zero-mul c)) ∙ eqb-scale a 0 c C
-
+-- ---- comparisons of two signed numbers, both multiplied
 below-scale : (s t : Bool) (a b c : ℕ) → 0 < c → below s (a * c) t (b * c) ≡ below s a t b
 below-scale false false a b c C = ltb-scale a b c C
 below-scale false true a b c C = refl
@@ -73,7 +62,8 @@ module _ {A : Type 0} (R : Float → Float → A) (P : Bool → ℕ → Bool →
   by-values (fin z m e) nan s t a c b d C D h k = absurd k
   by-values (fin z m e) (inf y) s t a c b d C D h k = absurd k
   by-values (fin z m e) (fin y n g) s t a c b d C D h k =
-      let B : n * up g * down e * (c * d) ≡ b * c * (down e * down g) = rw (mul-comm c d, mul-comm (down e) (down g)) (common (n * up g) (down g) (down e) b d c (k .1)) in
+      let B : n * up g * down e * (c * d) ≡ b * c * (down e * down g) =
+      rw (mul-comm c d, mul-comm (down e) (down g)) (common (n * up g) (down g) (down e) b d c (k .1)) in
       is z m e y n g
       ∙ sym (scale z y (m * up e * down g) (n * up g * down e) (c * d) (mul-pos C D))
       ∙ (λ i. P (h .0 i) (common (m * up e) (down e) (down g) a c d (h .1) i) (k .0 i) (B i))

@@ -1,13 +1,16 @@
--- The whole root of `specs/Root.antt`: its square is at most n, and that of the next number is more, which fixes it. Assumes nothing.
-use mathlib.Core.Path.{_≡_, refl, sym, ap, _∙_, subst}
-use mathlib.Core.Bool.{Bool, true, false, not, cond}
-use Prim.Native.Nat.{ℕ, zero, suc, _+_, _-_, _*_, _/_, _^_, _≤_, _<_}
-use native.Mathlib.Nat.{le-trans, le-of-eq, le-antisymm, le-of-suc-le-suc, lt-of-lt-of-le, lt-of-le-of-lt, lt-of-not-le, not-le-of-lt, lt-irrefl, mul-comm, mul-assoc, mul-left-comm, mul-add, add-mul, mul-le-mul, le-add-right, pow-succ'}
+-- The whole root of `specs/Root.antt`: its square is at most n, and that of the next number is more, which fixes it. So a root with its
+-- remainder, found in any way, is it.
+-- Assumes nothing.
+use mathlib.Core.Path.{_≡_, sym, ap, _∙_, subst}
+use mathlib.Core.Bool.{Bool, true, false, not}
+use Prim.Native.Nat.{ℕ, zero, suc, _+_, _*_, _/_, _^_, _≤_, _<_}
+use native.Mathlib.Nat.{lt-of-lt-of-le, lt-of-le-of-lt, lt-of-not-le, not-le-of-lt, mul-add, add-mul, mul-le-mul, le-add-right}
 use native.Mathlib.Omega.{arith}
 use lib.Dec.{T, leb, leb→le, nleb→lt}
 use lib.Pow.{pow-mono, pow-add}
 use lib.Ieee.{size}
 use lib.Ieee.Digits.{size-lt}
+use Rattle.ieee.specs.Numbers.{four-squares}
 use Rattle.ieee.specs.Root.{more, rootDigits, wholeRoot}
 
 pub record IsRoot (n s : ℕ) : Type 0 where
@@ -27,9 +30,6 @@ only n s t h k =
 -- by the remainder: the root of s * s + r is s, for r at most 2 * s
 pub by-rem : (n s r : ℕ) → s * s + r ≡ n → r ≤ 2 * s → IsRoot n s
 by-rem n s r e h = record { low = omega arith; high = rw (add-mul, mul-add) (omega arith) }
-
-four-squares : (a : ℕ) → 2 * a * (2 * a) ≡ 4 * (a * a)
-four-squares a = simp (mul-assoc, mul-comm, mul-left-comm) (omega arith)
 
 pick : (n s : ℕ) (b : Bool) → (T b → (s + 1) * (s + 1) ≤ n) → (T (not b) → n < (s + 1) * (s + 1)) → s * s ≤ n → n < (s + 2) * (s + 2) → IsRoot n (more b s)
 pick n s true y z lo hi = record { low = y tt; high = subst (λ (x : ℕ). n < x * x) (next s) hi }

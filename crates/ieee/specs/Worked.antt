@@ -1,11 +1,11 @@
--- Roots and narrowed values worked out by the definitions.
+-- Roots worked out by the definitions, so that a reader sees them at a few numbers: a square, the root of 2, the least
+-- and the greatest f64, and a number below zero.
 -- Assumes nothing.
 use mathlib.Core.Path.{_≡_, refl}
 use mathlib.Core.Bool.{true, false}
 use lib.IntN.{pos, negsuc}
-use lib.Ieee.{nan, inf, fin, binary32, binary64, ofBits}
+use lib.Ieee.{nan, fin, binary64, ofBits}
 use Rattle.ieee.specs.Root.{rootOf}
-use Rattle.ieee.specs.Narrow.{narrowOf}
 
 four : rootOf (fin false 1 (pos 2)) ≡ fin false 1 (pos 1)
 unfolding rootOf

@@ -4,20 +4,22 @@
 -- Assumes nothing.
 use mathlib.Core.Path.{_≡_, refl, sym, ap, _∙_, subst}
 use mathlib.Core.Bool.{Bool, true, false, not, _&&_, cond, false≢true}
-use Prim.Native.Nat.{ℕ, zero, suc, _+_, _-_, _*_, _^_, _<_, _≤_, suc-le-suc, zero-le, _%_}
-use native.Mathlib.Nat.{le-trans, le-of-eq, lt-of-not-le, not-le-of-lt, lt-irrefl, zero-lt-suc, mul-pos, mul-comm, mul-assoc, mul-left-comm, one-mul, zero-mul, zero-add, add-mul, mul-sub, mul-le-mul-right}
+use Prim.Native.Nat.{ℕ, zero, suc, _+_, _-_, _*_, _^_, _<_, _≤_, zero-le}
+use native.Mathlib.Nat.{le-trans, le-of-eq, lt-irrefl, zero-lt-suc, mul-pos, mul-comm, mul-assoc, mul-right-comm, one-mul, zero-mul, zero-add, add-mul}
 use native.Mathlib.Omega.{arith}
-use lib.IntN.{ℤ, pos, negsuc}
-use lib.Dec.{T, ltb, leb, eqb, ltb→lt, nltb→le, leb→le, eqb→eq, lit<}
-use lib.Pow.{pow-add, pow-pos, pow-lt}
+use lib.IntN.{ℤ, pos}
+use lib.Dec.{T, ltb, ltb→lt, nltb→le, lit<}
+use lib.Pow.{pow-pos}
 use lib.Ieee.{Float, nan, inf, fin, Format, binary32, binary64, prec, emax, low, up, down, unlike, odd, units, round, neg, sum, add, mul, fits}
-use lib.Ieee.Fits.{round-is, round-fits, up-pos, down-pos, and-l, and-r}
+use lib.Ieee.Fits.{round-is, round-fits, up-pos, down-pos}
 use lib.Ieee.Exact.{round-exact}
 use lib.Ieee.Order.{round-mono}
 use lib.Ieee.Back.{round-whole, whole-unique}
 use lib.Ieee.Scale.{round-same}
 use lib.Ieee.Positive.{positive, above, above-of-le, positive-of-value}
+use Rattle.ieee.specs.Numbers.{sub-scale, le-multiple, no-product}
 use Rattle.ieee.specs.Signs.{apart, plus-comm, times-comm, round-neg, flip}
+use Rattle.ieee.specs.Values.{low-fits, in-units}
 
 -- ---- the sign of a zero, forgotten
 abbrev pub canon : Float → Float
@@ -60,7 +62,10 @@ canon-plus f (inf s) y = refl
 canon-plus f (fin s (suc m) e) y = refl
 canon-plus f (fin s zero e) nan = refl
 canon-plus f (fin s zero e) (inf t) = refl
-canon-plus f (fin s zero e) (fin t n d) = rw (zero-mul (up e), zero-mul (down d)) (zero-plus f s t (n * up d * down e) (down e * down d) (mul-pos (down-pos e) (down-pos d)) ∙ sym (zero-plus f false t (n * up d * down e) (down e * down d) (mul-pos (down-pos e) (down-pos d))))
+canon-plus f (fin s zero e) (fin t n d) =
+    rw (zero-mul (up e), zero-mul (down d))
+    (zero-plus f s t (n * up d * down e) (down e * down d) (mul-pos (down-pos e) (down-pos d))
+    ∙ sym (zero-plus f false t (n * up d * down e) (down e * down d) (mul-pos (down-pos e) (down-pos d))))
 
 pub canon-times : (f : Format) (x y : Float) → canon (mul f x y) ≡ canon (mul f (canon x) y)
 unfolding mul
@@ -69,7 +74,8 @@ canon-times f (inf s) y = refl
 canon-times f (fin s (suc m) e) y = refl
 canon-times f (fin s zero e) nan = refl
 canon-times f (fin s zero e) (inf t) = refl
-canon-times f (fin s zero e) (fin t n d) = rw (zero-mul (up e), zero-mul (n * up d)) (zero-alike f (unlike s t) (unlike false t) (down e * down d) (mul-pos (down-pos e) (down-pos d)))
+canon-times f (fin s zero e) (fin t n d) =
+    rw (zero-mul (up e), zero-mul (n * up d)) (zero-alike f (unlike s t) (unlike false t) (down e * down d) (mul-pos (down-pos e) (down-pos d)))
 
 pub canon-neg : (x : Float) → canon (neg x) ≡ canon (neg (canon x))
 unfolding neg
@@ -164,7 +170,9 @@ plain-above (fin false zero e) h = absurd (lt-irrefl 0 (ltb→lt 0 0 h))
 plain-above (fin false (suc m) e) h = refl
 
 smallest : (f : Format) → T (positive (round f false 1 (2 ^ low f)))
-smallest f = positive-of-value (round f false 1 (2 ^ low f)) 1 (2 ^ low f) (round-exact f false 1 (2 ^ low f) 1 0 (pow-pos (low f)) (one-lt f) (fine f) refl) (zero-lt-suc 0)
+smallest f =
+    positive-of-value (round f false 1 (2 ^ low f)) 1 (2 ^ low f)
+    (round-exact f false 1 (2 ^ low f) 1 0 (pow-pos (low f)) (one-lt f) (fine f) refl) (zero-lt-suc 0)
   where
     one-lt : (f : Format) → 1 < 2 ^ prec f
     one-lt binary32 = lit< tt
@@ -178,26 +186,24 @@ round-plain : (f : Format) (s : Bool) (n c : ℕ) → 0 < c → (T s → c ≤ n
 round-plain f false n c C h = ap canon (round-is f false n c) ∙ plain-units f _ _ ∙ sym (round-is f false n c)
 round-plain f true n c C h =
     let r = round f false n c in
-    let a : T (above r) = above-of-le (round f false 1 (2 ^ low f)) r (smallest f) (round-mono f 1 (2 ^ low f) n c (pow-pos (low f)) C (le-trans (le-of-eq (one-mul c)) (h tt))) in
+    let a : T (above r) =
+    above-of-le (round f false 1 (2 ^ low f)) r (smallest f) (round-mono f 1 (2 ^ low f) n c (pow-pos (low f)) C (le-trans (le-of-eq (one-mul c)) (h tt))) in
     ap canon (sym (round-neg f false n c)) ∙ plain-above r a ∙ round-neg f false n c
 
 -- ---- a sum of whole numbers of the smallest value
 at-least : (n l k c : ℕ) → n * l ≡ k * c → 0 < n → 0 < l → c ≤ n * l
-at-least n l zero c e N L = absurd (lt-irrefl 0 (subst (λ (z : ℕ). 0 < z) (e ∙ zero-mul c) (mul-pos N L)))
-at-least n l (suc k) c e N L = subst (λ (z : ℕ). c ≤ z) (sym e) (le-trans (le-of-eq (sym (one-mul c))) (mul-le-mul-right c (le-one k)))
-  where
-    le-one : (k : ℕ) → 1 ≤ suc k
-    le-one k = omega arith
+at-least n l zero c e N L = absurd (no-product n l N L (e ∙ zero-mul c))
+at-least n l (suc k) c e N L = subst (λ (z : ℕ). c ≤ z) (sym e) (le-multiple (suc k) c (zero-lt-suc k))
 
 module _ (f : Format) (a b c A B : ℕ) (C : 0 < c) (p : a * 2 ^ low f ≡ A * c) (q : b * 2 ^ low f ≡ B * c) where
   plus-units : (a + b) * 2 ^ low f ≡ (A + B) * c
   plus-units = add-mul a b (2 ^ low f) ∙ (λ i. p i + q i) ∙ sym (add-mul A B c)
 
   less-units : (a - b) * 2 ^ low f ≡ (A - B) * c
-  less-units = mul-comm (a - b) (2 ^ low f) ∙ mul-sub (2 ^ low f) a b ∙ (λ i. (mul-comm (2 ^ low f) a ∙ p) i - (mul-comm (2 ^ low f) b ∙ q) i) ∙ (λ i. mul-comm A c i - mul-comm B c i) ∙ sym (mul-sub c A B) ∙ mul-comm c (A - B)
+  less-units = sym (sub-scale a b (2 ^ low f)) ∙ (λ i. p i - q i) ∙ sub-scale A B c
 
   less-units' : (b - a) * 2 ^ low f ≡ (B - A) * c
-  less-units' = mul-comm (b - a) (2 ^ low f) ∙ mul-sub (2 ^ low f) b a ∙ (λ i. (mul-comm (2 ^ low f) b ∙ q) i - (mul-comm (2 ^ low f) a ∙ p) i) ∙ (λ i. mul-comm B c i - mul-comm A c i) ∙ sym (mul-sub c B A) ∙ mul-comm c (B - A)
+  less-units' = sym (sub-scale b a (2 ^ low f)) ∙ (λ i. q i - p i) ∙ sub-scale B A c
 
   gap : (x y : ℕ) → x < y → 0 < y - x
   gap x y h = omega arith
@@ -211,34 +217,18 @@ module _ (f : Format) (a b c A B : ℕ) (C : 0 < c) (p : a * 2 ^ low f ≡ A * c
   sum-plain false false h = round-plain f false (a + b) c C (λ z. absurd z)
   sum-plain true false h = go (ltb a b) (ltb b a) (ltb→lt b a)
     where
-      go : (l g : Bool) → (T g → b < a) → canon (cond l (round f false (b - a) c) (round f g (a - b) c)) ≡ cond l (round f false (b - a) c) (round f g (a - b) c)
+      go : (l g : Bool) → (T g → b < a)
+          → canon (cond l (round f false (b - a) c) (round f g (a - b) c)) ≡ cond l (round f false (b - a) c) (round f g (a - b) c)
       go true g k = round-plain f false (b - a) c C (λ z. absurd z)
       go false g k = round-plain f g (a - b) c C (λ z. at-least (a - b) (2 ^ low f) (A - B) c less-units (gap b a (k z)) (pow-pos (low f)))
   sum-plain false true h = go (ltb a b) (ltb→lt a b)
     where
-      go : (l : Bool) → (T l → a < b) → canon (cond l (round f true (b - a) c) (round f false (a - b) c)) ≡ cond l (round f true (b - a) c) (round f false (a - b) c)
+      go : (l : Bool) → (T l → a < b)
+          → canon (cond l (round f true (b - a) c) (round f false (a - b) c)) ≡ cond l (round f true (b - a) c) (round f false (a - b) c)
       go true k = round-plain f true (b - a) c C (λ z. at-least (b - a) (2 ^ low f) (B - A) c less-units' (gap a b (k tt)) (pow-pos (low f)))
       go false k = round-plain f false (a - b) c C (λ z. absurd z)
 
--- ---- a value that fits is a whole number of the smallest value
-pub low-fits : (f : Format) (s : Bool) (m : ℕ) (e : ℤ) → T (fits f (fin s m e)) → down e ≤ 2 ^ low f
-unfolding fits
-low-fits f s zero e t =
-    let one : up e * down e ≡ 1 = eqb→eq (up e * down e) 1 t in
-    le-trans (le-trans (le-of-eq (sym (one-mul (down e)))) (mul-le-mul-right (down e) (up-pos e))) (le-trans (le-of-eq one) (pow-pos (low f)))
-low-fits f s (suc m) e t =
-    leb→le (down e) (2 ^ low f) (and-r (eqb (suc m % 2) 1 && ltb (suc m) (2 ^ prec f)) (leb (down e) (2 ^ low f)) (and-l (eqb (suc m % 2) 1 && ltb (suc m) (2 ^ prec f) && leb (down e) (2 ^ low f)) (ltb (suc m * up e) (2 ^ suc (emax f) * down e)) t))
-
-back : (a b : ℕ) → b ≤ a → b + (a - b) ≡ a
-back a b h = omega arith
-
-divides : (f : Format) (e : ℤ) → down e ≤ 2 ^ low f → (u : ℕ) × (2 ^ low f ≡ down e * u)
-divides f (pos k) h = (2 ^ low f, sym (one-mul (2 ^ low f)))
-divides f (negsuc k) h =
-    let j : k < low f = lt-of-not-le (λ (g : low f ≤ k). not-le-of-lt (pow-lt (suc-le-suc g)) h) in
-    (2 ^ (low f - suc k), ap (λ (z : ℕ). 2 ^ z) (sym (back (low f) (suc k) j)) ∙ pow-add 2 (suc k) (low f - suc k))
-
--- ---- so a sum is -0 only where its first part is
+-- ---- a value that fits is such a whole number, so a sum is -0 only where its first part is
 pub plus-plain : (f : Format) (x y : Float) → T (fits f x) → T (fits f y) → canon x ≡ x → canon (add f x y) ≡ add f x y
 unfolding add
 plus-plain f nan y p q h = refl
@@ -251,11 +241,12 @@ plus-plain f (inf s) (fin t n d) p q h = refl
 plus-plain f (fin s m e) nan p q h = refl
 plus-plain f (fin s m e) (inf t) p q h = refl
 plus-plain f (fin s m e) (fin t n d) p q h =
-    let u = divides f e (low-fits f s m e p) in
-    let v = divides f d (low-fits f t n d q) in
-    sum-plain f (m * up e * down d) (n * up d * down e) (down e * down d) (m * up e * u .0) (n * up d * v .0) (mul-pos (down-pos e) (down-pos d))
-    (ap (λ (z : ℕ). m * up e * down d * z) (u .1) ∙ simp (mul-assoc, mul-comm, mul-left-comm))
-    (ap (λ (z : ℕ). n * up d * down e * z) (v .1) ∙ simp (mul-assoc, mul-comm, mul-left-comm))
+    let u = in-units (low f) m e (low-fits f s m e p) in
+    let v = in-units (low f) n d (low-fits f t n d q) in
+    sum-plain f (m * up e * down d) (n * up d * down e) (down e * down d) (m * 2 ^ u .0) (n * 2 ^ v .0) (mul-pos (down-pos e) (down-pos d))
+    (mul-right-comm (m * up e) (down d) (2 ^ low f) ∙ ap (λ (z : ℕ). z * down d) (u .1) ∙ mul-assoc (m * 2 ^ u .0) (down e) (down d))
+    (mul-right-comm (n * up d) (down e) (2 ^ low f) ∙ ap (λ (z : ℕ). z * down e) (v .1)
+    ∙ mul-assoc (n * 2 ^ v .0) (down d) (down e) ∙ ap (λ (z : ℕ). n * 2 ^ v .0 * z) (mul-comm (down d) (down e)))
     s t (first s m h)
   where
     first : (s : Bool) (m : ℕ) → canon (fin s m e) ≡ fin s m e → T s → 0 < m * up e * down d

@@ -1,6 +1,7 @@
--- `ieee::closest` meets its contract. Assumes nothing.
-use mathlib.Core.Path.{_≡_, sym, ap, _∙_, refl, subst}
-use Prim.Native.Nat.{ℕ, suc, _+_, _*_, _/_, _%_, _≤_, _<_, Ordering}
+-- `ieee::closest` meets its contract: the three ways out are the three answers where twice the remainder is compared with p.
+-- Assumes nothing.
+use mathlib.Core.Path.{sym, ap, _∙_}
+use Prim.Native.Nat.{_*_, _/_, _%_, _<_}
 use native.Mathlib.Nat.{mod-lt, div-le-self}
 use native.Mathlib.Numerals.{add-one}
 use native.Mathlib.Omega.{arith}
@@ -9,8 +10,6 @@ use Rattle.ieee.proofs.Narrowing.{compare-lt, compare-eq, compare-gt}
 use borrow.Author.Needs.{needs}
 use Rattle.ieee.proofs.closest.Statement.{statement}
 use Rattle.ieee.proofs.closest.Tie as tie
-use Rattle.ieee.proofs.closest.Reads as reads
-use Rattle.ieee.proofs.closest.Lts as lts
 
 div-q : tie.Need-div-q
 div-q c = search needs

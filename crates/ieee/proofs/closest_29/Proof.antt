@@ -1,11 +1,9 @@
--- `ieee::closest_29` meets its contract. Assumes nothing.
-use mathlib.Core.Path.{sym, _∙_}
+-- `ieee::closest_29` meets its contract: what is added carries into the quotient exactly where m is rounded up.
+-- Assumes nothing.
 use Rattle.ieee.proofs.Narrowing.{closest-29}
 use borrow.Author.Needs.{needs}
 use Rattle.ieee.proofs.closest_29.Statement.{statement}
 use Rattle.ieee.proofs.closest_29.Tie as tie
-use Rattle.ieee.proofs.closest_29.Reads as reads
-use Rattle.ieee.proofs.closest_29.Lts as lts
 
 add-result : tie.Need-add-result
 add-result c = search needs

@@ -1,13 +1,13 @@
--- `ieee::lifted` meets its contract. Assumes nothing.
-use mathlib.Core.Path.{_≡_, sym, ap, _∙_, subst}
-use Prim.Native.Nat.{ℕ, suc, _+_, _-_, _*_, _^_, _≤_, _<_}
-use native.Mathlib.Nat.{le-trans, le-of-eq, mul-comm, mul-assoc, mul-one, one-mul, mul-le-mul-right, lt-of-not-le, not-le-of-lt, lt-of-le-of-lt}
+-- `ieee::lifted` meets its contract: each turn multiplies by 4, and after 26 turns any number has its 53 digits.
+-- Assumes nothing.
+use mathlib.Core.Path.{_≡_, sym, ap, _∙_}
+use Prim.Native.Nat.{ℕ, _+_, _-_, _*_, _^_, _≤_, _<_}
+use native.Mathlib.Nat.{le-trans, le-of-eq, mul-one, lt-of-not-le, not-le-of-lt, lt-of-le-of-lt}
 use native.Mathlib.Omega.{arith}
-use lib.Pow.{pow-add, pow-mono}
+use lib.Pow.{pow-mono}
+use Rattle.ieee.specs.Numbers.{le-multiple, shift}
 use Rattle.ieee.proofs.lifted.Statement.{statement}
 use Rattle.ieee.proofs.lifted.Tie as tie
-use Rattle.ieee.proofs.lifted.Reads as reads
-use Rattle.ieee.proofs.lifted.Lts as lts
 
 abbrev Inv-loop : tie.InvT-loop
 Inv-loop a x₀ i₀ x i = (x ≡ a * 2 ^ (i + i)) × (0 < a) × (a ≤ x) × (x ≤ 18014398509481982) × (i ≤ 26)
@@ -19,13 +19,13 @@ abbrev μ-loop : tie.MeasureT-loop
 few : (a x i : ℕ) → x ≡ a * 2 ^ (i + i) → 0 < a → x < 4503599627370496 → i < 26
 few a x i e p h =
     lt-of-not-le (λ (g : 26 ≤ i).
-    not-le-of-lt (lt-of-le-of-lt (le-trans (le-of-eq (sym (one-mul (2 ^ (i + i))))) (le-trans (mul-le-mul-right (2 ^ (i + i)) p) (le-of-eq (sym e)))) h) (pow-mono (twice i g)))
+    not-le-of-lt (lt-of-le-of-lt (le-trans (le-multiple a (2 ^ (i + i)) p) (le-of-eq (sym e))) h) (pow-mono (twice i g)))
   where
     twice : (i : ℕ) → 26 ≤ i → 52 ≤ i + i
     twice i g = omega arith
 
 quadruple : (a x i : ℕ) → x ≡ a * 2 ^ (i + i) → x * 4 ≡ a * 2 ^ (i + 1 + (i + 1))
-quadruple a x i e = ap (λ (z : ℕ). z * 4) e ∙ mul-assoc a (2 ^ (i + i)) 4 ∙ ap (λ (z : ℕ). a * z) (sym (pow-add 2 (i + i) 2) ∙ ap (λ (z : ℕ). 2 ^ z) (two-more i))
+quadruple a x i e = ap (λ (z : ℕ). z * 4) e ∙ shift a (i + i) 2 ∙ ap (λ (z : ℕ). a * 2 ^ z) (two-more i)
   where
     two-more : (i : ℕ) → i + i + 2 ≡ i + 1 + (i + 1)
     two-more i = omega arith

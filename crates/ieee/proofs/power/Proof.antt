@@ -1,4 +1,5 @@
--- `ieee::power` meets its contract. Assumes nothing.
+-- `ieee::power` meets its contract: 1 moved up by d places is 2 ^ d, which a word holds.
+-- Assumes nothing.
 use mathlib.Core.Path.{ap, _∙_}
 use Prim.Native.Nat.{ℕ, _%_}
 use native.Mathlib.Nat.{one-mul, mod-eq-of-lt}
@@ -6,8 +7,6 @@ use lib.Pow.{pow-lt}
 use borrow.Author.Needs.{needs}
 use Rattle.ieee.proofs.power.Statement.{statement}
 use Rattle.ieee.proofs.power.Tie as tie
-use Rattle.ieee.proofs.power.Reads as reads
-use Rattle.ieee.proofs.power.Lts as lts
 
 shl-result : tie.Need-shl-result
 shl-result c = search needs

@@ -1,4 +1,5 @@
--- `ieee::refine` meets its contract: each number stays within a word by `bounds`, and the two ways out are `refined` and `refined-less`. Assumes nothing.
+-- `ieee::refine` meets its contract: each number stays within a word by `bounds`, and the two ways out are `refined` and `refined-less`.
+-- Assumes nothing.
 use Prim.Native.Nat.{_+_, _*_}
 use borrow.Author.Needs.{needs}
 use native.Mathlib.Omega.{arith}

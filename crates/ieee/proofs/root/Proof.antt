@@ -1,9 +1,10 @@
--- `ieee::root` meets its contract: each case of x's bits is a law of `proofs/Cases.antt`. Assumes nothing.
+-- `ieee::root` meets its contract: each case of x's bits is a law of `proofs/Cases.antt`.
+-- Assumes nothing.
 use mathlib.Core.Path.{sym, subst, ap, _∙_}
 use mathlib.Core.Path.{_≡_}
 use Prim.Native.Nat.{ℕ, _%_, _≤_, _<_}
 use lib.Dec.{T}
-use lib.Ieee.{binary64, fits, ofBits, toBits}
+use lib.Ieee.{binary64, fits, toBits}
 use lib.Ieee.Bits.{ofBits-toBits, toBits-lt}
 use lib.Ieee.Compare.{differs-from-itself}
 use native.Mathlib.Omega.{arith}
@@ -12,9 +13,6 @@ use Rattle.ieee.proofs.Cases.{no-nan, no-nan-bits, bits-in, root-negati
 use borrow.Author.Needs.{needs}
 use Rattle.ieee.proofs.root.Statement.{statement}
 use Rattle.ieee.proofs.root.Tie as tie
-use Rattle.ieee.proofs.root.Reads as reads
-use Rattle.ieee.proofs.root.Lts as lts
-use Rattle.ieee.proofs.positive_root.Reads as positive-root-reads
 
 -- what owning an f64 tells: the format holds it
 held : (c : tie.Start) → T (fits binary64 (c .args .x))
@@ -53,9 +51,11 @@ returns-6 c =
     let b = toBits binary64 x in
     let m = bits-in binary64 x (held s) (no-nan x (c .before .before .before .if1 .left)) in
     let l = toBits-lt binary64 x (held s) in
-    zero-by-zero ∙ sym (root-negative b (above b (c .before .before .if2 .left) (c .before .if4 .left) (c .if5 .left) m) l m) ∙ ap rootOf (ofBits-toBits binary64 x (held s))
+    zero-by-zero ∙ sym (root-negative b (above b (c .before .before .if2 .left) (c .before .if4 .left) (c .if5 .left) m) l m)
+    ∙ ap rootOf (ofBits-toBits binary64 x (held s))
   where
-    above : (b : ℕ) → 9218868437227405312 ≤ b → (b ≡ 9218868437227405312 → ⊥) → (b ≡ 9223372036854775808 → ⊥) → b % 9223372036854775808 ≤ 9218868437227405312 → 9223372036854775808 < b
+    above : (b : ℕ) → 9218868437227405312 ≤ b → (b ≡ 9218868437227405312 → ⊥) → (b ≡ 9223372036854775808 → ⊥)
+        → b % 9223372036854775808 ≤ 9218868437227405312 → 9223372036854775808 < b
     above b h k n m = omega arith
 
 pub root-spec : {M : Type 1} → statement M

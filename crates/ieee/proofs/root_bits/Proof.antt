@@ -1,22 +1,21 @@
--- `ieee::root_bits` meets its contract. Assumes nothing.
-use Prim.Native.Nat.{ℕ, _+_, _-_, _*_, _/_, _^_, _<_}
+-- `ieee::root_bits` meets its contract: the digits and the exponent of the nearest root make its bits, by `finished-by`.
+-- Assumes nothing.
+use Prim.Native.Nat.{_+_, _-_, _*_, _/_, _^_, _<_}
 use native.Mathlib.Omega.{arith}
 use Rattle.ieee.specs.Inner.{RootBits}
 use Rattle.ieee.proofs.Finished.{below-top, finished-by}
 use borrow.Author.Needs.{needs}
 use Rattle.ieee.proofs.root_bits.Statement.{statement}
 use Rattle.ieee.proofs.root_bits.Tie as tie
-use Rattle.ieee.proofs.root_bits.Reads as reads
-use Rattle.ieee.proofs.root_bits.Lts as lts
-use Rattle.ieee.proofs.lifted.Reads as lifted-reads
-use Rattle.ieee.proofs.whole_root.Reads as whole-root-reads
 
 small : (c : tie.After-struct-known2) → c .before .before .whole-root .result .s < 9007199254740992
 small c = below-top _ _ _ (c .before .before .whole-root .ensures .whole) (c .before .before .before .lifted .ensures .high)
 
 done : (c : tie.After-struct-known2)
-    → RootBits (c .before .before .before .before .args .a * 2 ^ (c .before .before .before .before .args .h + c .before .before .before .before .args .h))
-    ((c .before .before .before .before .args .h - c .before .before .before .lifted .result .i - 26) * 4503599627370496 + (c .before .before .whole-root .result .s + (9223372036854775808 + c .before .before .whole-root .result .r - c .before .before .whole-root .result .s - 1) / 9223372036854775808))
+    → (let g = c .before .before .before .before .args in
+    let i = c .before .before .before .lifted .result .i in
+    let p = c .before .before .whole-root .result in
+    RootBits (g .a * 2 ^ (g .h + g .h)) ((g .h - i - 26) * 4503599627370496 + (p .s + (9223372036854775808 + p .r - p .s - 1) / 9223372036854775808)))
 done c = finished-by _ _ _ _ _ _ (c .before .before .before .lifted .ensures) (c .before .before .whole-root .ensures) (omega arith) (omega arith)
 
 lifted-requires : tie.Need-lifted-requires

@@ -1,4 +1,5 @@
--- `ieee::root_of_units` meets its contract. Assumes nothing.
+-- `ieee::root_of_units` meets its contract: m units times 2 ^ k are m, or twice m, times a power of 4, by `half`.
+-- Assumes nothing.
 use mathlib.Core.Path.{subst}
 use Prim.Native.Nat.{ℕ}
 use native.Mathlib.Omega.{arith}
@@ -7,9 +8,6 @@ use Rattle.ieee.proofs.Finished.{half}
 use borrow.Author.Needs.{needs}
 use Rattle.ieee.proofs.root_of_units.Statement.{statement}
 use Rattle.ieee.proofs.root_of_units.Tie as tie
-use Rattle.ieee.proofs.root_of_units.Reads as reads
-use Rattle.ieee.proofs.root_of_units.Lts as lts
-use Rattle.ieee.proofs.root_bits.Reads as root-bits-reads
 
 add-root-bits : tie.Need-add-root-bits
 add-root-bits c = search needs

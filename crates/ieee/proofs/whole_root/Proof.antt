@@ -1,13 +1,9 @@
--- `ieee::whole_root` meets its contract. Assumes nothing.
-use native.Mathlib.Omega.{arith}
+-- `ieee::whole_root` meets its contract: four steps take the root of the leading digits to that of all, by `chain`.
+-- Assumes nothing.
 use Rattle.ieee.proofs.Halving.{chain}
 use borrow.Author.Needs.{needs}
 use Rattle.ieee.proofs.whole_root.Statement.{statement}
 use Rattle.ieee.proofs.whole_root.Tie as tie
-use Rattle.ieee.proofs.whole_root.Reads as reads
-use Rattle.ieee.proofs.whole_root.Lts as lts
-use Rattle.ieee.proofs.refine.Reads as refine-reads
-use Rattle.ieee.proofs.seed.Reads as seed-reads
 
 seed-requires : tie.Need-seed-requires
 seed-requires c κs = search needs
@@ -33,7 +29,8 @@ refine-requires-4 c κs = search needs
 returns : tie.Need-returns
 returns c =
     let d = c .before .before .before .before .seed .ensures in
-    chain _ _ _ _ _ _ _ _ _ _ (d .0) (d .2) (c .before .before .before .refine .ensures) (c .before .before .refine2 .ensures) (c .before .refine3 .ensures) (c .refine4 .ensures)
+    chain _ _ _ _ _ _ _ _ _ _ (d .0) (d .2) (c .before .before .before .refine .ensures) (c .before .before .refine2 .ensures)
+    (c .before .refine3 .ensures) (c .refine4 .ensures)
 
 pub whole-root-spec : {M : Type 1} → statement M
 whole-root-spec =
