@@ -3,3 +3,4 @@ pub mod Turns
 pub mod Gains
 pub mod Totals
 pub mod Bounds
+pub mod Worked

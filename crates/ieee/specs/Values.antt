@@ -1,14 +1,14 @@
 -- A finite float by its value, ±a / c, in any way to write it as a fraction. The value fixes a float that a format holds; sums and products
 -- are roundings of the values' sums and products; and a value of few digits is a whole number of any unit that is fine enough.
 -- Assumes nothing.
-use mathlib.Core.Path.{_≡_, refl, sym, ap, _∙_}
+use mathlib.Core.Path.{_≡_, refl, sym, ap, _∙_, subst}
 use mathlib.Core.Bool.{Bool, true, false, not, _&&_, Bool·beq, cond}
 use Prim.Native.Nat.{ℕ, zero, suc, _+_, _-_, _*_, _%_, _^_, _<_, _≤_}
-use native.Mathlib.Nat.{le-refl, le-trans, le-of-eq, le-of-suc-le-suc, lt-of-not-le, not-le-of-lt, zero-lt-suc, mul-pos, mul-comm, mul-assoc, mul-left-comm, mul-right-comm, mul-mul-mul-comm, one-mul, mul-one, zero-mul, add-mul, eq-of-mul-eq-mul-right}
+use native.Mathlib.Nat.{le-refl, le-trans, le-of-eq, le-of-suc-le-suc, lt-of-not-le, not-le-of-lt, zero-lt-suc, mul-pos, mul-comm, mul-assoc, mul-left-comm, mul-right-comm, mul-mul-mul-comm, one-mul, mul-one, zero-mul, add-mul, lt-of-lt-of-le, mul-lt-mul-of-pos-right, lt-of-mul-lt-mul-right, eq-of-mul-eq-mul-right}
 use native.Mathlib.Omega.{arith}
 use lib.IntN.{ℤ, pos, negsuc}
 use lib.Dec.{T, leb, ltb, eqb, leb→le, ltb→lt, eqb→eq}
-use lib.Pow.{pow-pos, pow-lt}
+use lib.Pow.{pow-add, pow-pos, pow-lt}
 use lib.Ieee.{Float, nan, inf, fin, Format, prec, emax, low, up, down, unlike, round, neg, sum, add, mul, fits, ofBits, toBits}
 use lib.Ieee.Fits.{up-pos, down-pos, and-r}
 use lib.Ieee.Bits.{ofBits-toBits}
@@ -80,13 +80,13 @@ unfolding fits
 zero-down f s e v t = le-trans (le-multiple (up e) (down e) (up-pos e)) (le-trans (le-of-eq (eqb→eq (up e * down e) 1 t)) (pow-pos v))
 
 -- what `fits` says of any other
-parts : (f : Format) (s : Bool) (m : ℕ) (e : ℤ) → T (fits f (fin s (suc m) e)) → (suc m < 2 ^ prec f) × (down e ≤ 2 ^ low f)
+parts : (f : Format) (s : Bool) (m : ℕ) (e : ℤ) → T (fits f (fin s (suc m) e)) → (suc m < 2 ^ prec f) × (down e ≤ 2 ^ low f) × (suc m * up e < 2 ^ suc (emax f) * down e)
 unfolding fits
 parts f s m e t =
     let A = eqb (suc m % 2) 1 in
     let B = ltb (suc m) (2 ^ prec f) in
     let z = three (A && B) (leb (down e) (2 ^ low f)) (ltb (suc m * up e) (2 ^ suc (emax f) * down e)) t in
-    (ltb→lt (suc m) (2 ^ prec f) (and-r A B (z .0)), leb→le (down e) (2 ^ low f) (z .1))
+    (ltb→lt (suc m) (2 ^ prec f) (and-r A B (z .0)), leb→le (down e) (2 ^ low f) (z .1), ltb→lt (suc m * up e) (2 ^ suc (emax f) * down e) (z .2))
 
 pub few-digits : (f : Format) (s : Bool) (m : ℕ) (e : ℤ) → T (fits f (fin s m e)) → m < 2 ^ prec f
 few-digits f s zero e t = pow-pos (prec f)
@@ -121,6 +121,20 @@ digits f (fin r m e) s v t h =
       is = eq-of-mul-eq-mul-right (down e) (down-pos e) (m * 2 ^ i .0) v (sym (i .1) ∙ h .1);
       small = few-digits f r m e t;
     }
+
+-- and it is below the format's end
+pub fits-below : (f : Format) (x : Float) (s : Bool) (v : ℕ) → T (fits f x) → HasValue x s v (2 ^ low f) → v < 2 ^ (low f + suc (emax f))
+fits-below f nan s v t h = absurd h
+fits-below f (inf r) s v t h = absurd h
+fits-below f (fin r zero e) s v t h =
+    subst (λ (n : ℕ). n < 2 ^ (low f + suc (emax f)))
+    (eq-of-mul-eq-mul-right (down e) (down-pos e) 0 v (zero-mul (down e) ∙ sym (ap (λ (n : ℕ). n * 2 ^ low f) (zero-mul (up e)) ∙ zero-mul (2 ^ low f)) ∙ h .1))
+    (pow-pos (low f + suc (emax f)))
+fits-below f (fin r (suc m) e) s v t h =
+    lt-of-mul-lt-mul-right (down e)
+    (subst (λ (n : ℕ). n < 2 ^ (low f + suc (emax f)) * down e) (h .1)
+    (lt-of-lt-of-le (mul-lt-mul-of-pos-right (parts f r m e t .2) (pow-pos (low f)))
+    (le-of-eq (mul-right-comm (2 ^ suc (emax f)) (down e) (2 ^ low f) ∙ ap (λ (n : ℕ). n * down e) (mul-comm (2 ^ suc (emax f)) (2 ^ low f) ∙ sym (pow-add 2 (low f) (suc (emax f))))))))
 
 -- ---- the product
 pub mul-value : (f : Format) (x u : Float) (s t : Bool) (a c b d : ℕ) → 0 < c → 0 < d → HasValue x s a c → HasValue u t b d
