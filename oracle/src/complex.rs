@@ -43,6 +43,7 @@ impl<T: Copy + Add<Output = T> + Mul<Output = T>> Complex<T> {
 
 impl C32 {
     /// Squares and sum in `f64`, the nearest root, then to `f32`.
+    #[inline]
     pub fn norm(self) -> f32 {
         C64::new(f64::from(self.re), f64::from(self.im)).norm() as f32
     }
@@ -50,6 +51,7 @@ impl C32 {
 
 impl C64 {
     /// The nearest root of the rounded sum of rounded squares.
+    #[inline]
     pub fn norm(self) -> f64 {
         self.norm_sqr().sqrt()
     }

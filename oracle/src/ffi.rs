@@ -1,6 +1,7 @@
 //! The port's C functions, each behind a safe function over slices.
 //!
-//! Every function gives 0 or the number of its refusal; a refusal leaves what was lent untouched.
+//! Every function gives 0 or the number of its refusal; a refusal leaves what was lent untouched. The
+//! float functions at the end refuse nothing and give their value.
 
 mod c {
     unsafe extern "C" {
@@ -30,6 +31,10 @@ mod c {
             out_len: usize,
             count: *mut usize,
         ) -> u8;
+        pub fn sillurwy_root(x: f64) -> f64;
+        pub fn sillurwy_narrow(x: f64) -> f32;
+        pub fn sillurwy_norm32(re: f32, im: f32) -> f32;
+        pub fn sillurwy_norm64(re: f64, im: f64) -> f64;
     }
 }
 
@@ -86,4 +91,26 @@ pub fn continual_list(mode: u8, kinds: &[u8], out: &mut [u32], count: &mut usize
             count,
         )
     }
+}
+
+// The float functions take and give numbers alone.
+
+/// The `f64` nearest to the root.
+pub fn root(x: f64) -> f64 {
+    unsafe { c::sillurwy_root(x) }
+}
+
+/// The `f32` nearest to a number.
+pub fn narrow(x: f64) -> f32 {
+    unsafe { c::sillurwy_narrow(x) }
+}
+
+/// Norm of a pair of `f32`.
+pub fn norm32(re: f32, im: f32) -> f32 {
+    unsafe { c::sillurwy_norm32(re, im) }
+}
+
+/// Norm of a pair of `f64`.
+pub fn norm64(re: f64, im: f64) -> f64 {
+    unsafe { c::sillurwy_norm64(re, im) }
 }

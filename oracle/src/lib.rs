@@ -2,7 +2,8 @@
 //!
 //! `isdb` is the Rust that was carried over. `answers` turns it into the port's operations, with
 //! refusals where the Rust would panic. `ffi` calls the port. `check` makes one call to the port and
-//! compares all it gives and leaves behind. The programs are in src/bin.
+//! compares all it gives and leaves behind. `floats` compares the functions of floats. The programs
+//! are in src/bin.
 
 pub mod answers;
 pub mod args;
@@ -11,6 +12,8 @@ pub mod check;
 pub mod codes;
 pub mod complex;
 pub mod ffi;
+pub mod float_inputs;
+pub mod floats;
 pub mod isdb;
 pub mod lent;
 pub mod rng;

@@ -86,6 +86,23 @@ pub struct Row {
     smallest: Option<String>,
 }
 
+impl Row {
+    /// How many cases there were.
+    pub fn cases(&self) -> u64 {
+        self.cases
+    }
+
+    /// How many of them differed.
+    pub fn differences(&self) -> u64 {
+        self.differences
+    }
+
+    /// The smallest failing input and what was found.
+    pub fn smallest(&self) -> Option<&str> {
+        self.smallest.as_deref()
+    }
+}
+
 /// Prints the table and the smallest failing inputs. Gives the number of differences.
 pub fn print_table(rows: &[Row]) -> u64 {
     println!("| operation | cases | refused | differences |");

@@ -1,13 +1,16 @@
-//! Times the proved port beside the Rust: same driver, same inputs, the median of several rounds.
+//! Times the proved port beside the Rust: same driver, same inputs, the median of several rounds. The
+//! first table has the operations, the second the functions of floats.
 
 use oracle::answers;
 use oracle::args::Args;
 use oracle::codes::{KINDS, Kinds, MODES, PHASES, kind_bytes, kinds_of_choice};
+use oracle::complex::{C32, C64};
 use oracle::ffi;
 use oracle::isdb::frame::FrameLayout;
 use oracle::isdb::params::{Mode, SEGMENTS};
 use oracle::isdb::rx;
 use oracle::rng::Rng;
+use std::fmt::Debug;
 use std::fs;
 use std::hint::black_box;
 use std::time::{Duration, Instant, SystemTime, UNIX_EPOCH};
@@ -251,6 +254,213 @@ fn time_sign_map(mode: Mode, effort: &Effort) -> f64 {
     })
 }
 
+/// Number of inputs of a function of floats.
+const FLOATS: usize = 4096;
+
+/// The functions of the Rust. Each is called once for each value, as the port's is: inlined, the
+/// compiler would do several values at once.
+mod rust {
+    use super::{C32, C64};
+
+    #[inline(never)]
+    pub extern "C" fn root(x: f64) -> f64 {
+        x.sqrt()
+    }
+
+    #[inline(never)]
+    pub extern "C" fn narrow(x: f64) -> f32 {
+        x as f32
+    }
+
+    #[inline(never)]
+    pub extern "C" fn norm32(re: f32, im: f32) -> f32 {
+        C32::new(re, im).norm()
+    }
+
+    #[inline(never)]
+    pub extern "C" fn norm64(re: f64, im: f64) -> f64 {
+        C64::new(re, im).norm()
+    }
+
+    #[inline(never)]
+    pub extern "C" fn hypot32(re: f32, im: f32) -> f32 {
+        re.hypot(im)
+    }
+
+    #[inline(never)]
+    pub extern "C" fn hypot64(re: f64, im: f64) -> f64 {
+        re.hypot(im)
+    }
+}
+
+/// Pairs of whole numbers up to `limit`, with either sign.
+fn whole_pairs(limit: u32) -> Vec<C64> {
+    let mut rng = Rng::new(1);
+    let mut part = || rng.below(2 * limit as usize + 1) as f64 - f64::from(limit);
+    (0..FLOATS).map(|_| C64::new(part(), part())).collect()
+}
+
+/// Random bits of finite numbers.
+fn finite_numbers(count: usize) -> Vec<f64> {
+    let mut rng = Rng::new(1);
+    let any = || Some(f64::from_bits(rng.next_u64()));
+    let finite = std::iter::from_fn(any).filter(|x| x.is_finite());
+    finite.take(count).collect()
+}
+
+/// Random bits of pairs of finite numbers.
+fn finite_pairs() -> Vec<C64> {
+    let numbers = finite_numbers(2 * FLOATS);
+    let pair = |parts: &[f64]| C64::new(parts[0], parts[1]);
+    numbers.chunks_exact(2).map(pair).collect()
+}
+
+/// The same for `f32`.
+fn finite_pairs_32() -> Vec<C32> {
+    let mut rng = Rng::new(1);
+    let any = || Some(f32::from_bits(rng.next_u64() as u32));
+    let finite = std::iter::from_fn(any).filter(|x| x.is_finite());
+    let numbers: Vec<f32> = finite.take(2 * FLOATS).collect();
+    let pair = |parts: &[f32]| C32::new(parts[0], parts[1]);
+    numbers.chunks_exact(2).map(pair).collect()
+}
+
+/// Random bits of subnormals above zero: most have nearly all digits.
+fn subnormals() -> Vec<f64> {
+    let mut rng = Rng::new(1);
+    let number = |_| f64::from_bits(1 + rng.next_u64() % (f64::MIN_POSITIVE.to_bits() - 1));
+    (0..FLOATS).map(number).collect()
+}
+
+/// Subnormals above zero that have any count of digits.
+fn short_subnormals() -> Vec<f64> {
+    let mut rng = Rng::new(1);
+    let leading = f64::MIN_POSITIVE.to_bits() / 2;
+    let number = |_| f64::from_bits((rng.next_u64() % leading + leading) >> rng.below(52));
+    (0..FLOATS).map(number).collect()
+}
+
+/// A row of the table of floats.
+struct FloatRow {
+    what: String,
+    port: f64,
+    sqrt: f64,
+    hypot: Option<f64>,
+}
+
+impl FloatRow {
+    fn print(&self) {
+        let hypot = match self.hypot {
+            Some(time) => format!("{time:.2}"),
+            None => "-".to_string(),
+        };
+        println!(
+            "| {} | {:.2} | {:.2} | {hypot} | {:.1} |",
+            self.what,
+            self.port,
+            self.sqrt,
+            self.port / self.sqrt
+        );
+    }
+}
+
+/// Nanoseconds for a value. The function gives bits; those of all results are put together, so that
+/// each is needed.
+fn time_each<I: Copy>(inputs: &[I], effort: &Effort, function: impl Fn(I) -> u64) -> f64 {
+    let pass = |_| {
+        let inputs = black_box(inputs).iter();
+        black_box(inputs.fold(0, |all, &input| all ^ function(input)));
+    };
+    time(effort, pass) / inputs.len() as f64
+}
+
+/// The function of the port is first seen to agree with the Rust's.
+fn agree<I: Copy + Debug>(inputs: &[I], port: impl Fn(I) -> u64, rust: impl Fn(I) -> u64) {
+    for &input in inputs {
+        assert_eq!(port(input), rust(input), "{input:?}");
+    }
+}
+
+fn root_row(what: &str, inputs: &[f64], effort: &Effort) -> FloatRow {
+    let port = |x| ffi::root(x).to_bits();
+    let sqrt = |x| rust::root(x).to_bits();
+    agree(inputs, port, sqrt);
+    FloatRow {
+        what: format!("root, {what}"),
+        port: time_each(inputs, effort, port),
+        sqrt: time_each(inputs, effort, sqrt),
+        hypot: None,
+    }
+}
+
+fn narrow_row(what: &str, inputs: &[f64], effort: &Effort) -> FloatRow {
+    let port = |x| u64::from(ffi::narrow(x).to_bits());
+    let cast = |x| u64::from(rust::narrow(x).to_bits());
+    agree(inputs, port, cast);
+    FloatRow {
+        what: format!("narrow (beside it `as f32`, no sqrt), {what}"),
+        port: time_each(inputs, effort, port),
+        sqrt: time_each(inputs, effort, cast),
+        hypot: None,
+    }
+}
+
+fn norm32_row(what: &str, inputs: &[C32], effort: &Effort) -> FloatRow {
+    let port = |x: C32| u64::from(ffi::norm32(x.re, x.im).to_bits());
+    let sqrt = |x: C32| u64::from(rust::norm32(x.re, x.im).to_bits());
+    let hypot = |x: C32| u64::from(rust::hypot32(x.re, x.im).to_bits());
+    agree(inputs, port, sqrt);
+    FloatRow {
+        what: format!("norm32, {what}"),
+        port: time_each(inputs, effort, port),
+        sqrt: time_each(inputs, effort, sqrt),
+        hypot: Some(time_each(inputs, effort, hypot)),
+    }
+}
+
+fn norm64_row(what: &str, inputs: &[C64], effort: &Effort) -> FloatRow {
+    let port = |x: C64| ffi::norm64(x.re, x.im).to_bits();
+    let sqrt = |x: C64| rust::norm64(x.re, x.im).to_bits();
+    let hypot = |x: C64| rust::hypot64(x.re, x.im).to_bits();
+    agree(inputs, port, sqrt);
+    FloatRow {
+        what: format!("norm64, {what}"),
+        port: time_each(inputs, effort, port),
+        sqrt: time_each(inputs, effort, sqrt),
+        hypot: Some(time_each(inputs, effort, hypot)),
+    }
+}
+
+/// Every row of floats. Acquisition has whole parts; of these the root is given sums of two squares,
+/// and narrowing their roots.
+fn float_rows(effort: &Effort) -> Vec<FloatRow> {
+    let mut rows = Vec::new();
+    for (limit, what) in [
+        (1 << 15, "whole parts up to 2^15"),
+        (1 << 23, "whole parts up to 2^23"),
+    ] {
+        let pairs = whole_pairs(limit);
+        let squares: Vec<f64> = pairs.iter().map(|x| x.norm_sqr()).collect();
+        let norms: Vec<f64> = pairs.iter().map(|x| x.norm()).collect();
+        let short = |x: &C64| C32::new(x.re as f32, x.im as f32);
+        let short_pairs: Vec<C32> = pairs.iter().map(short).collect();
+        rows.push(norm32_row(what, &short_pairs, effort));
+        rows.push(norm64_row(what, &pairs, effort));
+        rows.push(root_row(what, &squares, effort));
+        rows.push(narrow_row(what, &norms, effort));
+    }
+    let (any, numbers) = ("any finite bits", finite_numbers(FLOATS));
+    let sizes: Vec<f64> = numbers.iter().map(|x| x.abs()).collect();
+    rows.push(norm32_row(any, &finite_pairs_32(), effort));
+    rows.push(norm64_row(any, &finite_pairs(), effort));
+    rows.push(root_row("any finite bits above zero", &sizes, effort));
+    rows.push(root_row("subnormals", &subnormals(), effort));
+    let what = "subnormals of any number of digits";
+    rows.push(root_row(what, &short_subnormals(), effort));
+    rows.push(narrow_row(any, &numbers, effort));
+    rows
+}
+
 /// The processor's name, as Linux tells it.
 fn processor() -> String {
     let info = fs::read_to_string("/proc/cpuinfo").unwrap_or_default();
@@ -309,6 +519,14 @@ fn main() {
         for row in rows(mode, &inputs, &effort) {
             row.print();
         }
+    }
+    println!();
+    println!(
+        "| function | port, ns a call | Rust's sqrt, ns a call | Rust's hypot, ns a call | port / sqrt |"
+    );
+    println!("|---|---:|---:|---:|---:|");
+    for row in float_rows(&effort) {
+        row.print();
     }
 }
 

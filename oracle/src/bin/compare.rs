@@ -1,11 +1,12 @@
 //! Holds the proved port against the Rust: every layout, every bin, every refusal at its boundary,
-//! random calls, and the program `segments`.
+//! random calls, the functions of floats, and the program `segments`.
 
 use oracle::answers;
 use oracle::args::Args;
 use oracle::calls::{self, Call, Operation, Outcome};
 use oracle::check;
 use oracle::codes::{KINDS, MODES, PHASES, kind_bytes, kinds_of_choice};
+use oracle::floats;
 use oracle::isdb::frame::FrameLayout;
 use oracle::isdb::params::{Mode, SEGMENTS};
 use oracle::rng::Rng;
@@ -15,13 +16,18 @@ use oracle::tally::{Row, Tally, on_all_processors, print_table};
 use std::collections::BTreeSet;
 use std::io;
 use std::process::ExitCode;
+use std::time::Instant;
 
 const USAGE: &str = "\
 compare: hold the proved port against the Rust
 
-  --quick     a seeded sample of the layouts in place of all 98,304; everything else the same
-  --seed N    seed of the sample, the random calls and the damaged lines (default 1)
+  --quick     a seeded sample of the layouts in place of all 98,304, and fewer random floats;
+              everything else the same
+  --seed N    seed of the sample, the random calls, the random floats and the damaged lines
+              (default 1)
   --cases N   random calls of each operation (default 4096)
+  --floats N  random inputs of each function of floats (default 100,000,000; with --quick
+              15,000,000)
   --help      this text
 
 Environment: SILLURWY_SEGMENTS is the path of the program segments.
@@ -31,6 +37,7 @@ struct Options {
     quick: bool,
     seed: u64,
     cases: u64,
+    floats: u64,
 }
 
 fn options() -> Options {
@@ -39,15 +46,20 @@ fn options() -> Options {
         quick: false,
         seed: 1,
         cases: 4096,
+        floats: 0,
     };
+    let mut floats = None;
     while let Some(word) = args.next_word() {
         match word.as_str() {
             "--quick" => options.quick = true,
             "--seed" => options.seed = args.number("--seed"),
             "--cases" => options.cases = args.number("--cases"),
+            "--floats" => floats = Some(args.number("--floats")),
             _ => args.fail(format!("unknown word {word}")),
         }
     }
+    let usual = if options.quick { QUICK_FLOATS } else { FLOATS };
+    options.floats = floats.unwrap_or(usual);
     options
 }
 
@@ -57,12 +69,17 @@ mod stream {
     pub const CALLS: u64 = 100;
     pub const LINES: u64 = 200;
     pub const INPUTS: u64 = 300;
+    pub const FLOATS: u64 = 400;
 }
 
 /// Kinds in a sample, for each mode.
 const SAMPLE: usize = 1024;
 /// Damaged lines besides those that `--cases` asks for.
 const DAMAGED_LINES: u64 = 4096;
+/// Random inputs of each function of floats, unless `--floats` is given.
+const FLOATS: u64 = 100_000_000;
+/// The same with `--quick`.
+const QUICK_FLOATS: u64 = 15_000_000;
 /// Kinds in a job of one thread.
 const JOB: usize = 32;
 
@@ -238,6 +255,13 @@ fn compare_random(options: &Options) -> Vec<Row> {
     Operation::ALL.map(row).into()
 }
 
+fn compare_floats(options: &Options) -> Vec<Row> {
+    let start = Instant::now();
+    let rows = floats::compare(options.seed, stream::FLOATS, options.floats);
+    eprintln!("the floats took {:.1} s", start.elapsed().as_secs_f64());
+    rows
+}
+
 /// Inputs that each take a run of the program: how they begin and end is what matters.
 fn whole_inputs(options: &Options) -> Vec<Vec<u8>> {
     let good: &[u8] = b"2,3,CDCDCDCDCDCDC";
@@ -312,12 +336,14 @@ fn main() -> ExitCode {
     rows.extend(compare_layouts(&options));
     rows.extend(compare_boundaries());
     rows.extend(compare_random(&options));
+    rows.extend(compare_floats(&options));
     let segments = compare_segments(&options);
     let failure = segments.map(|more| rows.extend(more)).err();
     let differences = print_table(&rows);
     println!(
-        "\nseed {}, {} random calls of each operation, {differences} differences",
-        options.seed, options.cases
+        "\nseed {}, {} random calls of each operation, {} random inputs of each function of floats, \
+         {differences} differences",
+        options.seed, options.cases, options.floats
     );
     if let Some(error) = failure {
         let program = segments_program::path();
