@@ -13,6 +13,10 @@ plusZero f = ofBits f 0
 abbrev pub half : Float
 half = ofBits binary64 0x3fe0_0000_0000_0000
 
+-- the same as f32, above which a segment is differential
+abbrev pub half32 : Float
+half32 = ofBits binary32 0x3f00_0000
+
 -- -0.0, where `sum::<f32>()` starts
 abbrev pub minusZero : Float
 minusZero = ofBits binary32 0x8000_0000

@@ -1,0 +1,163 @@
+-- A bin's ratio does not change, by a bit, where its pairs are turned by a quarter, where those of some symbols change their sign, or where
+-- all are amplified by a power of two; nor under all of these together.
+-- Assumes nothing.
+use Prim.Native.Nat.{ℕ, zero, suc, _+_, _≤_, zero-le}
+use mathlib.Core.Bool.{Bool, true, false, cond}
+use mathlib.Core.List.{List, [], _∷_, map}
+use mathlib.Core.Path.{_≡_, refl, sym, ap, _∙_}
+use native.Mathlib.Omega.{arith}
+use lib.Dec.{T}
+use lib.ListN.{length}
+use lib.Ieee.{Float, binary32, binary64, unlike, lt, div}
+use Rattle.ieee.specs.Constants.{plusZero}
+use Rattle.ieee.specs.Zeros.{canon}
+use Rattle.ieee.specs.Levels.{Level, Scaled}
+use Rattle.ieee.specs.Sums.{total, Each, total-alike}
+use Rattle.complex.specs.Complex.{Pair, pair, product, conjugate, squaredSize, norm32}
+use Rattle.complex.specs.Turns.{turned, negated, Alike, turned-product, negated-product, square-re, square-im, alike-size, norm32-same}
+use Rattle.complex.specs.Gains.{BothScaled}
+use Rattle.complex.specs.Totals.{totals, reals, imaginaries, totals-parts}
+use Rattle.complex.specs.Bounds.{most, WholePair, amplified, partLevel, stepLevel, termLevel, binLevel, part-gain, step-gain, square-gain, size-gain, bin-sum-gain, bin-energy-gain, ratio-gain, above-zero-gain}
+use Rattle.ratio.specs.Ratio.{stepsFrom, steps, squareOf, sizeOf, correlation, energy, guarded, ratioOf}
+
+-- ---- a quarter turn: every product is the same
+turned-from : (y : Pair) (xs : List Pair) → stepsFrom (turned y) (map turned xs) ≡ stepsFrom y xs
+unfolding stepsFrom
+turned-from y [] = refl
+turned-from y (x ∷ xs) = λ i. turned-product binary32 x y i ∷ turned-from x xs i
+
+turned-steps : (xs : List Pair) → steps (map turned xs) ≡ steps xs
+unfolding steps
+turned-steps [] = refl
+turned-steps (x ∷ xs) = turned-from x xs
+
+-- the sums read the products alone
+abbrev correlationOf : List Pair → Pair
+correlationOf ps = totals binary32 (pair (plusZero binary32) (plusZero binary32)) (map squareOf ps)
+
+abbrev energyOf : List Pair → Float
+energyOf ps = total binary32 (plusZero binary32) (map sizeOf ps)
+
+ratio-is : (xs : List Pair) → ratioOf xs ≡ guarded (norm32 (correlationOf (steps xs))) (energyOf (steps xs))
+unfolding ratioOf correlation energy
+ratio-is xs = refl
+
+pub turned-ratio : (xs : List Pair) → ratioOf (map turned xs) ≡ ratioOf xs
+turned-ratio xs = ratio-is (map turned xs) ∙ ap (λ (ps : List Pair). guarded (norm32 (correlationOf ps)) (energyOf ps)) (turned-steps xs) ∙ sym (ratio-is xs)
+
+-- ---- some symbols negated: g says which
+abbrev pub signed : (ℕ → Bool) → List Pair → List Pair
+signed g [] = []
+signed g (x ∷ xs) = negated (g zero) x ∷ signed (λ j. g (suc j)) xs
+
+-- each product is the other's, or that with the other sign, but for the sign of a zero
+pub record Signed (p q : Pair) : Type 0 where
+  pub flipped : Bool
+  pub alike : Alike p (negated flipped q)
+
+signed-from : (b : Bool) (g : ℕ → Bool) (y : Pair) (xs : List Pair) → Each Signed (stepsFrom (negated b y) (signed g xs)) (stepsFrom y xs)
+unfolding stepsFrom Each
+signed-from b g y [] = tt
+signed-from b g y (x ∷ xs) = (record { flipped = unlike (g zero) b; alike = negated-product binary32 (g zero) b x y }, signed-from (g zero) (λ j. g (suc j)) x xs)
+
+signed-steps : (g : ℕ → Bool) (xs : List Pair) → Each Signed (steps (signed g xs)) (steps xs)
+unfolding steps Each
+signed-steps g [] = tt
+signed-steps g (x ∷ xs) = signed-from (g zero) (λ j. g (suc j)) x xs
+
+-- so the squares' real parts and the sizes are equal, and the squares' imaginary parts but for the sign of a zero
+sizes-same : (ps qs : List Pair) → Each Signed ps qs → map sizeOf ps ≡ map sizeOf qs
+unfolding Each
+sizes-same [] [] h = refl
+sizes-same [] (q ∷ qs) h = absurd h
+sizes-same (p ∷ ps) [] h = absurd h
+sizes-same (p ∷ ps) (q ∷ qs) h = λ i. alike-size binary32 (h .0 .flipped) p q (h .0 .alike) i ∷ sizes-same ps qs (h .1) i
+
+reals-same : (ps qs : List Pair) → Each Signed ps qs → reals (map squareOf ps) ≡ reals (map squareOf qs)
+unfolding Each
+reals-same [] [] h = refl
+reals-same [] (q ∷ qs) h = absurd h
+reals-same (p ∷ ps) [] h = absurd h
+reals-same (p ∷ ps) (q ∷ qs) h = λ i. square-re binary32 (h .0 .flipped) p q (h .0 .alike) i ∷ reals-same ps qs (h .1) i
+
+imaginaries-alike : (ps qs : List Pair) → Each Signed ps qs → Each (λ x y. canon x ≡ canon y) (imaginaries (map squareOf ps)) (imaginaries (map squareOf qs))
+unfolding Each
+imaginaries-alike [] [] h = tt
+imaginaries-alike [] (q ∷ qs) h = absurd h
+imaginaries-alike (p ∷ ps) [] h = absurd h
+imaginaries-alike (p ∷ ps) (q ∷ qs) h = (square-im binary32 (h .0 .flipped) p q (h .0 .alike), imaginaries-alike ps qs (h .1))
+
+-- the sums have the same squared size
+norms-same : (ps qs : List Pair) → Each Signed ps qs → norm32 (correlationOf ps) ≡ norm32 (correlationOf qs)
+norms-same ps qs h =
+    let z = plusZero binary32 in
+    norm32-same (correlationOf ps) (correlationOf qs)
+    (alike-size binary64 false (correlationOf ps) (correlationOf qs)
+    (rw (totals-parts binary32 (pair z z) (map squareOf ps), totals-parts binary32 (pair z z) (map squareOf qs))
+    (record {
+      re = ap (λ (l : List Float). canon (total binary32 z l)) (reals-same ps qs h);
+      im = total-alike binary32 z z (imaginaries (map squareOf ps)) (imaginaries (map squareOf qs)) refl (imaginaries-alike ps qs h);
+    })))
+
+pub signed-ratio : (g : ℕ → Bool) (xs : List Pair) → ratioOf (signed g xs) ≡ ratioOf xs
+signed-ratio g xs =
+    let h = signed-steps g xs in
+    ratio-is (signed g xs)
+    ∙ (λ i. guarded (norms-same (steps (signed g xs)) (steps xs) h i) (total binary32 (plusZero binary32) (sizes-same (steps (signed g xs)) (steps xs) h i)))
+    ∙ sym (ratio-is xs)
+
+-- ---- amplified, where all parts are whole numbers from -32,768 to 32,768
+abbrev pub WholePairs : List Pair → Type 0
+WholePairs [] = Unit
+WholePairs (x ∷ xs) = WholePair x × WholePairs xs
+
+module _ (k : ℕ) (K : k ≤ most) where
+  gained-from : (y : Pair) (xs : List Pair) → WholePair y → WholePairs xs → Each (BothScaled stepLevel k) (stepsFrom y xs) (stepsFrom (amplified k y) (map (amplified k) xs))
+  unfolding stepsFrom Each
+  gained-from y [] h g = tt
+  gained-from y (x ∷ xs) h g = (step-gain k K x (amplified k x) y (amplified k y) (part-gain k K x (g .0)) (part-gain k K y h), gained-from x xs (g .0) (g .1))
+
+  gained-steps : (xs : List Pair) → WholePairs xs → Each (BothScaled stepLevel k) (steps xs) (steps (map (amplified k) xs))
+  unfolding steps Each
+  gained-steps [] g = tt
+  gained-steps (x ∷ xs) g = gained-from x xs (g .0) (g .1)
+
+  gained-squares : (ps qs : List Pair) → Each (BothScaled stepLevel k) ps qs → Each (BothScaled termLevel k) (map squareOf ps) (map squareOf qs)
+  unfolding Each
+  gained-squares [] [] h = tt
+  gained-squares [] (q ∷ qs) h = absurd h
+  gained-squares (p ∷ ps) [] h = absurd h
+  gained-squares (p ∷ ps) (q ∷ qs) h = (square-gain k K p q (h .0), gained-squares ps qs (h .1))
+
+  gained-sizes : (ps qs : List Pair) → Each (BothScaled stepLevel k) ps qs → Each (Scaled termLevel k) (map sizeOf ps) (map sizeOf qs)
+  unfolding Each
+  gained-sizes [] [] h = tt
+  gained-sizes [] (q ∷ qs) h = absurd h
+  gained-sizes (p ∷ ps) [] h = absurd h
+  gained-sizes (p ∷ ps) (q ∷ qs) h = (size-gain k K p q (h .0), gained-sizes ps qs (h .1))
+
+  length-from : (y : Pair) (xs : List Pair) → length (stepsFrom y xs) ≡ length xs
+  unfolding stepsFrom
+  length-from y [] = refl
+  length-from y (x ∷ xs) = ap suc (length-from x xs)
+
+  few-steps : (xs : List Pair) → length xs ≤ 1024 → length (steps xs) ≤ 1024
+  unfolding steps
+  few-steps [] n = zero-le
+  few-steps (x ∷ xs) n = let e = length-from x xs in omega arith
+
+  length-map : {A : Type 0} (f : Pair → A) (xs : List Pair) → length (map f xs) ≡ length xs
+  length-map f [] = refl
+  length-map f (x ∷ xs) = ap suc (length-map f xs)
+
+  pub gained-ratio : (xs : List Pair) → length xs ≤ 1024 → WholePairs xs → ratioOf (map (amplified k) xs) ≡ ratioOf xs
+  gained-ratio xs n g =
+      let ps = steps xs in
+      let qs = steps (map (amplified k) xs) in
+      let h = gained-steps xs g in
+      let N = few-steps xs n in
+      let a = bin-sum-gain k K (map squareOf ps) (map squareOf qs) (rw (length-map squareOf ps) N) (gained-squares ps qs h) in
+      let b = bin-energy-gain k K (map sizeOf ps) (map sizeOf qs) (rw (length-map sizeOf ps) N) (gained-sizes ps qs h) in
+      ratio-is (map (amplified k) xs)
+      ∙ (λ i. cond (sym (above-zero-gain binary32 binLevel k (energyOf ps) (energyOf qs) b) i) (sym (ratio-gain k K (correlationOf ps) (correlationOf qs) (energyOf ps) (energyOf qs) a b) i) (plusZero binary32))
+      ∙ sym (ratio-is xs)

@@ -1,0 +1,38 @@
+// Spectra as they are lent: one behind another in a flat slice, real and imaginary part in turn.
+ghost use mathlib.Core.Path.{_≡_};
+ghost use Prim.Native.Nat.{_+_, _*_, _<_};
+ghost use lib.ListN.{length};
+ghost use Rattle.complex.specs.Complex.{of32};
+ghost use Rattle.spectra.specs.Spectra.{pairAt, spectraCode};
+use complex::C32;
+
+// Pair k.
+pub fn pair_at(xs: &[f32], k: usize) -> C32
+    requires { ⌜ 2 * k + 1 < length (now xs) ⌝ }
+    ensures { λ r. ⌜ of32 r ≡ pairAt (now (xs .entry)) k ⌝ }
+{
+    let i = 2 * k;
+    let j = i + 1;
+    C32 {
+        re: xs[i],
+        im: xs[j],
+    }
+}
+
+// 5 unless n floats are whole spectra of len pairs, at most 1,024; 6 if none; else 0.
+pub fn refusal(len: usize, n: usize) -> u8
+    requires { ⌜ (0 < len) × (len < 65536) ⌝ }
+    ensures { λ r. ⌜ r ≡ spectraCode len n 0 ⌝ }
+{
+    let w = 2 * len;
+    if n % w != 0 {
+        return 5;
+    }
+    if n / w > 1024 {
+        return 5;
+    }
+    if n == 0 {
+        return 6;
+    }
+    0
+}
