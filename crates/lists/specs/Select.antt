@@ -28,6 +28,11 @@ getD-upTo f (suc n) i d h = last (decLt i n) (λ l. getD-upTo f n i d l)
     last (yes l) r = List·getD-append (upTo f n) (f n ∷ []) d i (rw (length-upTo f n) l) ∙ r l
     last (no g) r = let e : i ≡ n = omega arith in rw e (getD-at (upTo f n) (f n) [] d n (length-upTo f n))
 
+-- functions that agree have the same values
+pub upTo-same : {A : Type 0} (f g : ℕ → A) (n : ℕ) → ((i : ℕ) → i < n → f i ≡ g i) → upTo f n ≡ upTo g n
+upTo-same f g zero h = refl
+upTo-same f g (suc n) h = λ k. upTo-same f g n (λ i l. h i (omega arith)) k ++ (h n (omega arith) k ∷ [])
+
 -- a list is the values of its own lookup
 upTo-getD : (xs : List ℕ) → upTo (λ (i : ℕ). getD xs i 0) (length xs) ≡ xs
 upTo-getD xs =

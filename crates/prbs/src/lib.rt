@@ -130,7 +130,7 @@ pub fn pilot_value(w: u8) -> C32
 }
 
 // W of all carriers of the band, segment after segment from the lowest place.
-fn band_w(mode: Mode, out: &mut [u8])
+pub fn band_w(mode: Mode, out: &mut [u8])
     requires { ⌜ length (now out) ≡ totalCarriers mode ⌝ }
     ensures { λ _. ⌜ now (out .exit) ≡ bandSigns mode ⌝ }
 {

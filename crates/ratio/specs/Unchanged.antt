@@ -1,10 +1,12 @@
 -- A bin's ratio does not change, by a bit, where its pairs are turned by a quarter, where those of some symbols change their sign, or where
 -- all are amplified by a power of two; nor under all of these together.
 -- Assumes nothing.
-use Prim.Native.Nat.{ℕ, zero, suc, _+_, _≤_, zero-le}
+use Prim.Native.Nat.{ℕ, zero, suc, _+_, _≤_, _<_, zero-le}
 use mathlib.Core.Bool.{Bool, true, false, cond}
 use mathlib.Core.List.{List, [], _∷_, map}
+use mathlib.Core.Logic.{_⊎_, inl, inr}
 use mathlib.Core.Path.{_≡_, refl, sym, ap, _∙_}
+use native.Mathlib.Nat.{add-zero}
 use native.Mathlib.Omega.{arith}
 use lib.Dec.{T}
 use lib.ListN.{length}
@@ -13,12 +15,15 @@ use Rattle.ieee.specs.Constants.{plusZero}
 use Rattle.ieee.specs.Zeros.{canon}
 use Rattle.ieee.specs.Levels.{Level, Scaled}
 use Rattle.ieee.specs.Sums.{total, Each, total-alike}
+use Rattle.lists.specs.Select.{upTo-same}
 use Rattle.complex.specs.Complex.{Pair, pair, product, conjugate, squaredSize, norm32}
 use Rattle.complex.specs.Turns.{turned, negated, Alike, turned-product, negated-product, square-re, square-im, alike-size, norm32-same}
 use Rattle.complex.specs.Gains.{BothScaled}
 use Rattle.complex.specs.Totals.{totals, reals, imaginaries, totals-parts}
 use Rattle.complex.specs.Bounds.{most, WholePair, amplified, partLevel, stepLevel, termLevel, binLevel, part-gain, step-gain, square-gain, size-gain, bin-sum-gain, bin-energy-gain, ratio-gain, above-zero-gain}
-use Rattle.ratio.specs.Ratio.{stepsFrom, steps, squareOf, sizeOf, correlation, energy, guarded, ratioOf}
+use Rattle.spectra.specs.Changes.{Change, turnIf, gainBy, changedPair, changedFrom, Changed, Allowed, Wholes, WholePairs, changed-bin, whole-bin, length-bin}
+use Rattle.spectra.specs.Spectra.{binPairs, spectraIn}
+use Rattle.ratio.specs.Ratio.{stepsFrom, steps, squareOf, sizeOf, correlation, energy, guarded, ratioOf, ratios}
 
 -- ---- a quarter turn: every product is the same
 turned-from : (y : Pair) (xs : List Pair) → stepsFrom (turned y) (map turned xs) ≡ stepsFrom y xs
@@ -107,10 +112,6 @@ signed-ratio g xs =
     ∙ sym (ratio-is xs)
 
 -- ---- amplified, where all parts are whole numbers from -32,768 to 32,768
-abbrev pub WholePairs : List Pair → Type 0
-WholePairs [] = Unit
-WholePairs (x ∷ xs) = WholePair x × WholePairs xs
-
 module _ (k : ℕ) (K : k ≤ most) where
   gained-from : (y : Pair) (xs : List Pair) → WholePair y → WholePairs xs → Each (BothScaled stepLevel k) (stepsFrom y xs) (stepsFrom (amplified k y) (map (amplified k) xs))
   unfolding stepsFrom Each
@@ -161,3 +162,53 @@ module _ (k : ℕ) (K : k ≤ most) where
       ratio-is (map (amplified k) xs)
       ∙ (λ i. cond (sym (above-zero-gain binary32 binLevel k (energyOf ps) (energyOf qs) b) i) (sym (ratio-gain k K (correlationOf ps) (correlationOf qs) (energyOf ps) (energyOf qs) a b) i) (plusZero binary32))
       ∙ sym (ratio-is xs)
+
+-- ---- all changes together
+map-turns : (b : Bool) (xs : List Pair) → ratioOf (map (turnIf b) xs) ≡ ratioOf xs
+map-turns true xs = turned-ratio xs
+map-turns false xs = ap ratioOf (same xs)
+  where
+    same : (xs : List Pair) → map (turnIf false) xs ≡ xs
+    same [] = refl
+    same (x ∷ xs) = ap (λ (l : List Pair). x ∷ l) (same xs)
+
+apart : (c : Change) (j : ℕ) (xs : List Pair) → changedFrom c j xs ≡ signed (λ i. c .negates (j + i)) (map (turnIf (c .turns)) (map (gainBy (c .gain)) xs))
+apart c j [] = refl
+apart c j (x ∷ xs) = λ i. negated (c .negates (sym (add-zero j) i)) (turnIf (c .turns) (gainBy (c .gain) x)) ∷ (apart c (suc j) xs ∙ further) i
+  where
+    later : (j i : ℕ) → suc j + i ≡ j + suc i
+    later j i = omega arith
+
+    further : signed (λ i. c .negates (suc j + i)) (map (turnIf (c .turns)) (map (gainBy (c .gain)) xs)) ≡ signed (λ i. c .negates (j + suc i)) (map (turnIf (c .turns)) (map (gainBy (c .gain)) xs))
+    further = λ k. signed (λ i. c .negates (later j i k)) (map (turnIf (c .turns)) (map (gainBy (c .gain)) xs))
+
+gain-none : (xs : List Pair) → map (gainBy 0) xs ≡ xs
+gain-none [] = refl
+gain-none (x ∷ xs) = ap (λ (l : List Pair). x ∷ l) (gain-none xs)
+
+gain-some : (k : ℕ) (xs : List Pair) → k ≤ most → length xs ≤ 1024 → WholePairs xs → ratioOf (map (gainBy k) xs) ≡ ratioOf xs
+gain-some zero xs K n g = ap ratioOf (gain-none xs)
+gain-some (suc k) xs K n g = gained-ratio (suc k) K xs n g
+
+pub changed-ratio : (c : Change) (xs : List Pair) → length xs ≤ 1024 → (c .gain ≡ 0) ⊎ ((c .gain ≤ most) × WholePairs xs) → ratioOf (changedFrom c 0 xs) ≡ ratioOf xs
+changed-ratio c xs n h =
+    ap ratioOf (apart c 0 xs)
+    ∙ signed-ratio (λ i. c .negates (0 + i)) (map (turnIf (c .turns)) (map (gainBy (c .gain)) xs))
+    ∙ map-turns (c .turns) (map (gainBy (c .gain)) xs)
+    ∙ elim h [
+      | inl z ↦ ap (λ (k : ℕ). ratioOf (map (gainBy k) xs)) z ∙ ap ratioOf (gain-none xs)
+      | inr g ↦ gain-some (c .gain) xs (g .0) n (g .1)
+    ]
+
+-- the ratio of the bin that was moved there
+pub changed-ratio-at : (c : Change) (len : ℕ) (move : ℕ → ℕ) (xs ys : List Float) (b : ℕ) → b < len → spectraIn len (length xs) ≤ 1024 → Allowed c len xs → Changed c len move xs ys
+    → ratioOf (binPairs len ys (move b)) ≡ ratioOf (binPairs len xs b)
+changed-ratio-at c len move xs ys b B N A h =
+    ap ratioOf (changed-bin c len move xs ys b B h)
+    ∙ changed-ratio c (binPairs len xs b) (rw (length-bin len xs b (spectraIn len (length xs))) N)
+    (elim A [ inl z ↦ inl z | inr g ↦ inr (g .0, whole-bin len xs b B (g .1)) ])
+
+-- not moved, all ratios are the same
+pub changed-ratios : (c : Change) (len : ℕ) (xs ys : List Float) → spectraIn len (length xs) ≤ 1024 → Allowed c len xs → Changed c len (λ b. b) xs ys → ratios len ys ≡ ratios len xs
+unfolding ratios
+changed-ratios c len xs ys N A h = upTo-same (λ b. ratioOf (binPairs len ys b)) (λ b. ratioOf (binPairs len xs b)) len (λ b B. changed-ratio-at c len (λ b. b) xs ys b B N A h)

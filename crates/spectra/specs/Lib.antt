@@ -1,1 +1,2 @@
 pub mod Spectra
+pub mod Changes

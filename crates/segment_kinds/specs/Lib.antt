@@ -1,0 +1,2 @@
+pub mod SegmentKinds
+pub mod Inner

@@ -1,0 +1,85 @@
+-- What `integer_cfo` returns: each refusal, and the winner's shift and score.
+-- Assumes nothing.
+use Prim.Native.Nat.{ℕ, _+_, _*_, _/_, _<_, _≤_}
+use mathlib.Core.List.{List}
+use mathlib.Core.Path.{_≡_, sym, ap, _∙_}
+use native.Mathlib.Omega.{arith}
+use borrow.Author.Tests.{ne-eqb}
+use lib.IntN.{ℤ, pos}
+use lib.ListN.{length, take}
+use lib.Ieee.{Float, binary32, minus, div, ofInt}
+use lib.Seq.{sets-eq, length-sets, take-at}
+use Rattle.lists.specs.Select.{length-upTo}
+use Rattle.params.specs.declared.Mode.{Mode}
+use Rattle.params.specs.declared.ModeNumber.{ModeNumber}
+use Rattle.params.specs.declared.ModeNumber.the-variants.{Known, Unknown}
+use Rattle.params.specs.Params.{fftSize}
+use Rattle.params.specs.Laws.{sized}
+use Rattle.ratio.specs.Ratio.{ratios}
+use Rattle.shift.specs.declared.Best.{Best}
+use Rattle.shift.specs.declared.ShiftAnswer.the-variants.{Shift, Refused}
+use Rattle.shift.specs.Shift.{pattern, scoreOf, winner, bestShift, shiftCode, shiftLeaves, shiftAnswer, Shifted}
+use Rattle.shift.specs.Inner.{Put, Bounded, Found}
+use Rattle.shift.proofs.Segments.{pattern-few}
+
+-- ---- the pattern in front of the buffer
+module _ (m : Mode) (old out : List ℕ) (r : ℕ) (p : Put (pattern m) old 0 r out) (size : 105 ≡ length old) where
+  room : 0 + length (pattern m) ≤ length old
+  room = omega (arith, pattern-few m)
+
+  pub front-few : r ≤ 105
+  front-few = omega (arith, room, p .next)
+
+  pub front-fits : r ≤ length out
+  front-fits = rw (p .stored, length-sets old 0 (pattern m)) (omega (arith, front-few))
+
+  counts : r ≡ length (pattern m)
+  counts = omega (arith, p .next)
+
+  pub front-is : take r out ≡ pattern m
+  front-is = rw (p .stored, sets-eq (pattern m) old 0 room) (take-at (pattern m) _ r (sym counts))
+
+  pub front-length : r ≡ length (take r out)
+  front-length = counts ∙ sym (ap length front-is)
+
+-- ---- the sizes
+ratios-length : (n : ℕ) (xs now : List Float) → now ≡ ratios n xs → length now ≡ n
+unfolding ratios
+ratios-length n xs now e = rw e (length-upTo _ n)
+
+pub mode-bins : (m : Mode) (n : ℕ) → n ≡ fftSize m → (0 < n) × (n ≤ 8192)
+mode-bins m n e = omega (arith, sized m .band, sized m .within, sized m .fft-high)
+
+pub shift-small : (m : Mode) (n at bound : ℕ) → n ≡ fftSize m → bound ≤ n / 2 → at ≤ 2 * bound → at + bound ≤ 16384
+shift-small m n at bound size h i = omega (arith, mode-bins m n size)
+
+pub searchable : (m : Mode) (xs now : List Float) (n bound : ℕ) → n ≡ fftSize m → now ≡ ratios n xs → bound ≤ n / 2 → Bounded (length now) bound
+searchable m xs now n bound size left h =
+    let all = ratios-length n xs now left in
+    let bins = mode-bins m n size in
+    record { some = omega arith; few = omega arith; within = omega arith }
+
+-- ---- the search's winner is the definition's
+best-is : (m : Mode) (xs now : List Float) (bins : List ℕ) (n bound : ℕ) (best : Best) → n ≡ fftSize m → now ≡ ratios n xs → bins ≡ pattern m
+    → Found bins now bound best → winner (minus (best .at) bound) (best .sum) ≡ bestShift m bound (ratios (fftSize m) xs)
+unfolding bestShift
+best-is m xs now bins n bound best size left are found = found .wins ∙ (rw (ratios-length n xs now left, left, size, are))
+
+-- ---- the returns: `read` is what the mode's number was read as
+module _ (number read : ModeNumber) (told : read ≡ number) (xs old : List Float) (bound : ℕ) where
+  pub bad-mode : read ≡ Unknown → Shifted number xs bound old (Refused 1) old
+  unfolding shiftAnswer shiftLeaves
+  bad-mode e = record { answer = rw (← told, e); leaves = rw (← told, e) }
+
+  module _ (m : Mode) (known : read ≡ Known m) where
+    pub refused : (k : ℕ) → shiftCode (Known m) (length xs) (length old) bound ≡ k → (k ≡ 0 → ⊥) → Shifted number xs bound old (Refused k) old
+    unfolding shiftAnswer shiftLeaves
+    refused k e h = record { answer = rw (← told, known, e, ne-eqb k 0 h); leaves = rw (← told, known, e, ne-eqb k 0 h) }
+
+    pub answered : (bins : List ℕ) (now : List Float) (n count : ℕ) (best : Best) (z : ℤ) → shiftCode (Known m) (length xs) (length old) bound ≡ 0
+        → n ≡ fftSize m → now ≡ ratios n xs → bins ≡ pattern m → count ≡ length bins → Found bins now bound best → z ≡ minus (best .at) bound
+        → Shifted number xs bound old (Shift z (div binary32 (best .sum) (ofInt binary32 (pos count)))) now
+    unfolding shiftAnswer shiftLeaves scoreOf
+    answered bins now n count best z code size left are long found shifted =
+        let best = best-is m xs now bins n bound best size left are found in
+        record { answer = rw (← told, known, code, ← best, shifted, long, are); leaves = rw (← told, known, code, left, size) }

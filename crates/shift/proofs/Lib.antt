@@ -1,0 +1,9 @@
+pub mod Adding
+pub mod Storing
+pub mod AcRow
+pub mod Segments
+pub mod Places
+pub mod Finding
+pub mod Signed
+pub mod Codes
+pub mod Answers

@@ -1,0 +1,84 @@
+-- `shift::pattern_sum` meets its contract: the sum so far, with what the bins ahead will add, is the whole.
+-- Assumes nothing.
+use Prim.Native.Nat.{_+_, _-_, _%_, _≤_}
+use mathlib.Core.List.{map}
+use mathlib.Core.Path.{_≡_, refl}
+use native.Mathlib.Nat.{mod-lt}
+use lib.Ieee.{nan, binary32}
+use lib.ListN.{length, getD, drop}
+use Rattle.ieee.specs.Sums.{total}
+use Rattle.shift.specs.Inner.{sumUp}
+use Rattle.shift.proofs.Adding.{add-again, add-done}
+use native.Mathlib.Omega.{arith}
+use Rattle.shift.proofs.pattern_sum.Statement.{statement}
+use Rattle.shift.proofs.pattern_sum.Tie as tie
+
+abbrev Inv-loop : tie.InvT-loop
+Inv-loop bins ratios up n sum₀ i₀ sum i =
+    (i ≤ length bins) × (total binary32 sum (map (λ b. getD ratios ((b + up) % length ratios) nan) (drop i bins)) ≡ sumUp bins ratios up)
+
+abbrev μ-loop : tie.MeasureT-loop
+μ-loop bins ratios up n sum₀ i₀ sum i = length bins - i
+
+loop-holds : tie.Need-loop-holds Inv-loop μ-loop
+unfolding sumUp
+loop-holds c = (omega arith, refl)
+
+mul-bin : tie.Need-mul-bin Inv-loop μ-loop
+mul-bin c = omega arith
+
+shared-slice-read-bin : tie.Need-shared-slice-read-bin Inv-loop μ-loop
+shared-slice-read-bin c = omega arith
+
+cast-bin : tie.Need-cast-bin Inv-loop μ-loop
+cast-bin c = omega (arith, c .shared-slice-known .given (c .before .before .loop .i))
+
+add-bin : tie.Need-add-bin Inv-loop μ-loop
+add-bin c = omega (arith, c .shared-slice-known .given (c .before .before .loop .i))
+
+rem-bin : tie.Need-rem-bin Inv-loop μ-loop
+rem-bin c = omega arith
+
+mul-sum : tie.Need-mul-sum Inv-loop μ-loop
+mul-sum c =
+    let l = c .before .before in
+    let s = l .before in
+    omega (arith, mod-lt (getD (s .args .bins .now) (l .loop .i) 0 + s .args .up) (s .pre .some))
+
+shared-slice-read-sum : tie.Need-shared-slice-read-sum Inv-loop μ-loop
+shared-slice-read-sum c = mod-lt _ (c .before .before .before .before .pre .some)
+
+add-i : tie.Need-add-i Inv-loop μ-loop
+add-i c = omega arith
+
+loop-less : tie.Need-loop-less Inv-loop μ-loop
+loop-less c = omega arith
+
+loop-again : tie.Need-loop-again Inv-loop μ-loop
+loop-again c =
+    let l = c .before .before .before in
+    (omega arith, add-again _ (l .before .args .bins .now) _ _ (l .loop .i) (l .loop .inv .1) (c .before .before .loop-test .taken))
+
+returns : tie.Need-returns Inv-loop μ-loop
+returns c =
+    let l = c .before in
+    add-done _ (l .before .args .bins .now) _ _ (l .loop .i) (l .loop .inv .1) (c .loop-test .left)
+
+pub pattern-sum-spec : {M : Type 1} → statement M
+pattern-sum-spec =
+    tie.close
+    (tie.spec
+    Inv-loop
+    μ-loop
+    loop-holds
+    mul-bin
+    shared-slice-read-bin
+    cast-bin
+    add-bin
+    rem-bin
+    mul-sum
+    shared-slice-read-sum
+    add-i
+    loop-less
+    loop-again
+    returns)
