@@ -4,7 +4,9 @@
 use Prim.Native.Nat.{ℕ}
 use mathlib.Core.List.{List}
 use mathlib.Core.Path.{_≡_}
+use lib.IntN.{ℤ}
 use lib.ListN.{length}
+use lib.Ieee.{Float}
 use Rattle.params.specs.declared.ModeNumber.{ModeNumber}
 use Rattle.ofdm.specs.declared.BinLookup.{BinLookup}
 use Rattle.ofdm.specs.declared.BinLookup.the-variants as bin-lookup
@@ -12,6 +14,9 @@ use Rattle.ofdm.specs.Band.{binLookup}
 use Rattle.carrier_lists.specs.declared.ContinualList.{ContinualList}
 use Rattle.carrier_lists.specs.declared.ContinualList.the-variants as continual-list
 use Rattle.carrier_lists.specs.Operations.{continualListAnswer, continualListLeaves}
+use Rattle.shift.specs.declared.ShiftAnswer.{ShiftAnswer}
+use Rattle.shift.specs.declared.ShiftAnswer.the-variants as shift-answer
+use Rattle.shift.specs.Shift.{shiftAnswer, shiftLeaves}
 
 -- 0 and the bin, or the refusal's number and what was lent
 abbrev pub binCode : BinLookup → ℕ
@@ -38,3 +43,22 @@ pub record ContinualCount (mode : ModeNumber) (kinds out : List ℕ) (lent r : �
   pub code : r ≡ continualCode (continualListAnswer mode kinds (length out))
   pub counted : count ≡ continualCount (continualListAnswer mode kinds (length out)) lent
   pub leaves : out' ≡ continualListLeaves mode kinds out
+
+-- ---- the shift
+abbrev pub shiftCode : ShiftAnswer → ℕ
+shiftCode (shift-answer.Shift z s) = 0
+shiftCode (shift-answer.Refused code) = code
+
+abbrev pub shiftOf : ShiftAnswer → ℤ → ℤ
+shiftOf (shift-answer.Shift z s) lent = z
+shiftOf (shift-answer.Refused code) lent = lent
+
+abbrev pub scoreOf : ShiftAnswer → Float → Float
+scoreOf (shift-answer.Shift z s) lent = s
+scoreOf (shift-answer.Refused code) lent = lent
+
+pub record ShiftLent (mode : ModeNumber) (xs : List Float) (bound : ℕ) (old : List Float) (z : ℤ) (s : Float) (r : ℕ) (now : List Float) (z' : ℤ) (s' : Float) : Type 0 where
+  pub code : r ≡ shiftCode (shiftAnswer mode xs bound (length old))
+  pub shift : z' ≡ shiftOf (shiftAnswer mode xs bound (length old)) z
+  pub score : s' ≡ scoreOf (shiftAnswer mode xs bound (length old)) s
+  pub leaves : now ≡ shiftLeaves mode xs bound old

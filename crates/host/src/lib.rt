@@ -10,12 +10,13 @@ ghost use Rattle.complex.specs.Complex.{pair, norm32, norm64};
 ghost use Rattle.prbs.specs.SignMap.{SignMap};
 ghost use Rattle.frame.specs.Operations.{RoleMap};
 ghost use Rattle.carrier_lists.specs.Operations.{DataList};
-ghost use Rattle.host.specs.Host.{CarrierBin, ContinualCount};
+ghost use Rattle.host.specs.Host.{CarrierBin, ContinualCount, ShiftLent};
 use carrier_lists::ContinualList;
 use complex::C32;
 use complex::C64;
 use ofdm::BandCarrier;
 use ofdm::BinLookup;
+use shift::ShiftAnswer;
 
 // The FFT bin of carrier k.
 #[no_mangle]
@@ -71,6 +72,28 @@ pub extern "C" fn sillurwy_continual_list(
             0
         }
         ContinualList::Refused(code) => code,
+    }
+}
+
+// The shift of spectra, and its score; their ratios stay in `ratios`.
+#[no_mangle]
+pub extern "C" fn sillurwy_integer_cfo(
+    mode: u8,
+    spectra: &[f32],
+    bound: usize,
+    ratios: &mut [f32],
+    shift: &mut i64,
+    score: &mut f32,
+) -> u8
+    ensures { λ r. ⌜ ShiftLent (modeFrom mode) (now (spectra .entry)) bound (now (ratios .entry)) (now (shift .entry)) (now (score .entry)) r (now (ratios .exit)) (now (shift .exit)) (now (score .exit)) ⌝ }
+{
+    match shift::integer_cfo(mode, spectra, bound, ratios) {
+        ShiftAnswer::Shift(z, s) => {
+            *shift = z;
+            *score = s;
+            0
+        }
+        ShiftAnswer::Refused(code) => code,
     }
 }
 
