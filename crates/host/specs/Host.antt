@@ -2,8 +2,10 @@
 -- what it lends back.
 -- Assumes nothing.
 use Prim.Native.Nat.{ℕ}
+use mathlib.Core.Bool.{cond}
 use mathlib.Core.List.{List}
 use mathlib.Core.Path.{_≡_}
+use lib.Dec.{eqb}
 use lib.IntN.{ℤ}
 use lib.ListN.{length}
 use lib.Ieee.{Float}
@@ -14,6 +16,7 @@ use Rattle.ofdm.specs.Band.{binLookup}
 use Rattle.carrier_lists.specs.declared.ContinualList.{ContinualList}
 use Rattle.carrier_lists.specs.declared.ContinualList.the-variants as continual-list
 use Rattle.carrier_lists.specs.Operations.{continualListAnswer, continualListLeaves}
+use Rattle.segment_kinds.specs.SegmentKinds.{kindsCode, kindsAnswer, scoresAnswer, kindsLeaves}
 use Rattle.shift.specs.declared.ShiftAnswer.{ShiftAnswer}
 use Rattle.shift.specs.declared.ShiftAnswer.the-variants as shift-answer
 use Rattle.shift.specs.Shift.{shiftAnswer, shiftLeaves}
@@ -62,3 +65,10 @@ pub record ShiftLent (mode : ModeNumber) (xs : List Float) (bound : ℕ) (old : 
   pub shift : z' ≡ shiftOf (shiftAnswer mode xs bound (length old)) z
   pub score : s' ≡ scoreOf (shiftAnswer mode xs bound (length old)) s
   pub leaves : now ≡ shiftLeaves mode xs bound old
+
+-- ---- the kinds: where the call is refused, the lent kinds and scores stay as they were
+pub record KindsLent (mode : ModeNumber) (xs old : List Float) (ks : List ℕ) (ss : List Float) (r : ℕ) (now : List Float) (ks' : List ℕ) (ss' : List Float) : Type 0 where
+  pub code : r ≡ kindsCode mode (length xs) (length old)
+  pub kinds : ks' ≡ cond (eqb (kindsCode mode (length xs) (length old)) 0) (kindsAnswer mode xs (length old)) ks
+  pub scores : ss' ≡ cond (eqb (kindsCode mode (length xs) (length old)) 0) (scoresAnswer mode xs (length old)) ss
+  pub leaves : now ≡ kindsLeaves mode xs old

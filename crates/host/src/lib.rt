@@ -10,7 +10,7 @@ ghost use Rattle.complex.specs.Complex.{pair, norm32, norm64};
 ghost use Rattle.prbs.specs.SignMap.{SignMap};
 ghost use Rattle.frame.specs.Operations.{RoleMap};
 ghost use Rattle.carrier_lists.specs.Operations.{DataList};
-ghost use Rattle.host.specs.Host.{CarrierBin, ContinualCount, ShiftLent};
+ghost use Rattle.host.specs.Host.{CarrierBin, ContinualCount, ShiftLent, KindsLent};
 use carrier_lists::ContinualList;
 use complex::C32;
 use complex::C64;
@@ -95,6 +95,29 @@ pub extern "C" fn sillurwy_integer_cfo(
         }
         ShiftAnswer::Refused(code) => code,
     }
+}
+
+// The kinds of the thirteen segments and their scores, by segment number; the ratios stay in `ratios`.
+#[no_mangle]
+pub extern "C" fn sillurwy_detect_kinds(
+    mode: u8,
+    spectra: &[f32],
+    ratios: &mut [f32],
+    kinds: &mut [u8; 13],
+    scores: &mut [f32; 13],
+) -> u8
+    ensures { λ r. ⌜ KindsLent (modeFrom mode) (now (spectra .entry)) (now (ratios .entry)) (now (kinds .entry)) (now (scores .entry)) r (now (ratios .exit)) (now (kinds .exit)) (now (scores .exit)) ⌝ }
+{
+    let answer = segment_kinds::detect_kinds(mode, spectra, ratios);
+    let code = answer.code;
+    if code != 0 {
+        return code;
+    }
+    let found = answer.kinds;
+    let found_scores = answer.scores;
+    *kinds = found;
+    *scores = found_scores;
+    0
 }
 
 // The f64 nearest to the root of x.
