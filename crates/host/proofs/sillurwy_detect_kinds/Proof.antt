@@ -22,7 +22,7 @@ same-length : tie.Need-same-length
 same-length c = search needs
 
 returns : tie.Need-returns
-returns c = 
+returns c =
     let h = c .before .before .before .detect-kinds .ensures in
     record { code = h .code; kinds = kept _ _ _ _ (h .code) (c .if1 .taken); scores = kept _ _ _ _ (h .code) (c .if1 .taken); leaves = h .leaves }
 
@@ -30,7 +30,7 @@ same-length-2 : tie.Need-same-length-2
 same-length-2 c = search needs
 
 returns-2 : tie.Need-returns-2
-returns-2 c = 
+returns-2 c =
     let h = c .before .before .before .before .before .detect-kinds .ensures in
     let z = c .before .before .if1 .left in
     record { code = sym z ∙ h .code; kinds = taken _ _ _ _ _ (h .code) z (h .kinds); scores = taken _ _ _ _ _ (h .code) z (h .scores); leaves = h .leaves }

@@ -1,0 +1,124 @@
+-- The search, one step at a time: over a list that a loop walks, and at an offset, from the sums in the scratch.
+-- Assumes nothing.
+use Prim.Native.Nat.{ℕ, _+_, _-_, _*_, _/_, _≤_, _<_}
+use mathlib.Core.Bool.{Bool, true, false, cond}
+use mathlib.Core.List.{List, [], _∷_, _++_, map}
+use mathlib.Core.Path.{_≡_, refl, sym, ap, _∙_}
+use native.Mathlib.Omega.{arith}
+use native.Mathlib.Numerals.{add-one}
+use borrow.Author.Tests.{le-leb, lt-leb, lt-ltb, le-ltb, leb-true}
+use lib.Dec.{leb}
+use lib.ListN.{length, getD, take}
+use lib.Seq.{take-suc, take-all}
+use lib.Ieee.{Float, nan, binary64}
+use Rattle.ieee.specs.Constants.{plusZero}
+use Rattle.ieee.specs.Sums.{total}
+use Rattle.lists.specs.Lists.{upTo, range, select}
+use Rattle.guess.specs.declared.Window.{Window}
+use Rattle.guess.specs.declared.Best.{Best}
+use Rattle.guess.specs.declared.GuardSearch.{GuardSearch}
+use Rattle.guess.specs.declared.GuardSearch.the-variants.{Found, Nothing}
+use Rattle.guess.specs.Samples.{fftOf, guardOf, symbolOf}
+use Rattle.guess.specs.Guess.{pairsIn, lagsIn, realPrefixes, imaginaryPrefixes, energyPrefixes, starts, windowSum, correlationAt, energyAt, guessAt, offered, scan, triedGuard, triedMode, guessed}
+use Rattle.guess.specs.Inner.{reals, imaginaries, energies, entry, Holds, gap, gaps, Windowed, searchOf, guessOf, betterOf, Tried}
+
+-- ---- one entry more
+module _ (f : GuardSearch → ℕ → GuardSearch) where
+  scan-last : (b : GuardSearch) (xs : List ℕ) (x : ℕ) → scan f b (xs ++ (x ∷ [])) ≡ f (scan f b xs) x
+  unfolding scan
+  scan-last b [] x = refl
+  scan-last b (y ∷ xs) x = scan-last (f b y) xs x
+
+  pub none : (b : GuardSearch) → b ≡ scan f b []
+  unfolding scan
+  none b = refl
+
+  pub next-number : (b r s : GuardSearch) (d : ℕ) → r ≡ scan f b (range d) → s ≡ f r d → s ≡ scan f b (range (d + 1))
+  next-number b r s d e g = rw add-one (g ∙ (ap (λ (z : GuardSearch). f z d) e ∙ sym (scan-last b (range d) d)))
+
+  pub next-entry : (b r s : GuardSearch) (xs : List ℕ) (i : ℕ) → i < length xs → r ≡ scan f b (take i xs) → s ≡ f r (getD xs i 0) → s ≡ scan f b (take (i + 1) xs)
+  next-entry b r s xs i h e g =
+      rw (add-one, take-suc xs i 0 h) (g ∙ (ap (λ (z : GuardSearch). f z (getD xs i 0)) e ∙ sym (scan-last b (take i xs) (getD xs i 0))))
+
+-- ---- an offset
+map-select : (f g : ℕ → Float) (t : ℕ → Bool) (xs : List ℕ) → ((a : ℕ) → t a ≡ true → f a ≡ g a) → map f (select t xs) ≡ map g (select t xs)
+map-select f g t [] h = refl
+map-select f g t (x ∷ xs) h = by (t x) (h x) (map-select f g t xs h)
+  where
+    by : (b : Bool) → (b ≡ true → f x ≡ g x) → map f (select t xs) ≡ map g (select t xs)
+        → map f (cond b (x ∷ select t xs) (select t xs)) ≡ map g (cond b (x ∷ select t xs) (select t xs))
+    by true q r = rw (q refl, r)
+    by false q r = r
+
+-- sums that hold a list give its window sums: each start's guard ends within it
+sum-by : (place : ℕ → ℕ) (sums ps : List Float) (p ng len d : ℕ) → ((i : ℕ) → i ≤ len → entry place sums i ≡ getD ps i nan)
+    → gaps place sums ng (plusZero binary64) (starts p ng len d) ≡ windowSum ps ng (starts p ng len d)
+unfolding starts windowSum
+sum-by place sums ps p ng len d h =
+    ap (total binary64 (plusZero binary64))
+    (map-select (gap (entry place sums) ng) (gap (λ i. getD ps i nan) ng) (λ a. leb (a + ng) len) (upTo (λ s. d + s * p) ((len - ng) / p)) (λ a t.
+    let l : a + ng ≤ len = leb-true (a + ng) len t in
+    rw (h (a + ng) l, h a (omega arith))))
+
+module _ (xs sums : List Float) (mode guard d : ℕ) (w : Window) (h : Holds (fftOf mode) xs sums)
+    (g : Windowed sums (guardOf mode guard) (starts (symbolOf mode guard) (guardOf mode guard) (lagsIn (fftOf mode) xs) d) w) where
+  energy-is : w .energy ≡ energyAt xs mode guard d
+  unfolding energyAt
+  energy-is = g .energy ∙ sum-by energies sums (energyPrefixes (fftOf mode) xs) _ _ _ d (h .energy)
+
+  guess-is : guessOf mode guard d w ≡ guessAt xs mode guard d
+  unfolding guessAt correlationAt
+  guess-is = rw (
+    g .re ∙ sum-by reals sums (realPrefixes (fftOf mode) xs) _ _ _ d (h .re),
+    g .im ∙ sum-by imaginaries sums (imaginaryPrefixes (fftOf mode) xs) _ _ _ d (h .im),
+    energy-is,
+  )
+
+  offered-is : (b : GuardSearch) → betterOf b (w .energy) (guessOf mode guard d w) ≡ offered xs mode guard b d
+  offered-is b = rw (guess-is, energy-is)
+
+-- ---- a guard, where n is the mode's size and len the number of samples n apart
+module _ (xs : List Float) (mode guard n len : ℕ) (e : n ≡ fftOf mode) (l : len ≡ lagsIn (fftOf mode) xs) where
+  pub too-short : (b : GuardSearch) → len < n / guard + 4 * (n + n / guard) → b ≡ triedGuard xs mode b guard
+  unfolding triedGuard
+  too-short b h = let g = rw (e, l) at h in rw (lt-leb _ _ g)
+
+  pub all-offsets : (b r : GuardSearch) (d : ℕ) → n / guard + 4 * (n + n / guard) ≤ len → n + n / guard ≡ d
+      → r ≡ scan (offered xs mode guard) b (range d) → r ≡ triedGuard xs mode b guard
+  unfolding triedGuard
+  all-offsets b r d h q g =
+      let fits = rw (e, l) at h in
+      let all = rw e at q in
+      rw (le-leb _ _ fits, all) g
+
+  pub next-offset : (sums : List Float) (b s : GuardSearch) (d : ℕ) (w : Window) → Holds (fftOf mode) xs sums
+      → Windowed sums (n / guard) (starts (n + n / guard) (n / guard) len d) w
+      → s ≡ betterOf b (w .energy) (guessOf mode guard d w) → s ≡ offered xs mode guard b d
+  next-offset sums b s d w h g q = q ∙ offered-is xs sums mode guard d w h (rw (e, l) at g) b
+
+-- ---- a mode, where n is its size
+module _ (xs : List Float) (mode n : ℕ) (e : n ≡ fftOf mode) where
+  pub next-guard : (sums : List Float) (guard : ℕ) (b r : Best) → Holds n xs sums → Tried sums mode guard (pairsIn (length xs) - n) b r
+      → searchOf r ≡ triedGuard xs mode (searchOf b) guard
+  next-guard sums guard b r h t = t xs (rw e at h) (rw e)
+
+  pub too-few : (guards : List ℕ) (b : GuardSearch) → pairsIn (length xs) ≤ n → b ≡ triedMode xs guards b mode
+  unfolding triedMode
+  too-few guards b h = let g = rw e at h in rw (le-ltb _ _ g)
+
+  pub all-guards : (guards : List ℕ) (b r : GuardSearch) (i : ℕ) → n < pairsIn (length xs) → length guards ≤ i
+      → r ≡ scan (triedGuard xs mode) b (take i guards) → r ≡ triedMode xs guards b mode
+  unfolding triedMode
+  all-guards guards b r i h l g = let f = rw e at h in rw (lt-ltb _ _ f) (rw (take-all i guards l) at g)
+
+-- ---- all modes
+pub all-modes : (xs : List Float) (modes guards : List ℕ) (r : GuardSearch) (i : ℕ) → length modes ≤ i
+    → r ≡ scan (triedMode xs guards) Nothing (take i modes) → r ≡ guessed xs modes guards
+unfolding guessed
+all-modes xs modes guards r i l g = rw (take-all i modes l) at g
+
+pub found : (b : Best) → b .found ≡ true → Found (b .guess) ≡ searchOf b
+found b e = rw e
+
+pub nothing : (b : Best) → b .found ≡ false → Nothing ≡ searchOf b
+nothing b e = rw e

@@ -1,0 +1,224 @@
+-- The guess does not hang on the phase or the gain at which the recorder ran. A quarter turn of every sample changes nothing; a gain by a
+-- power of two, on samples with whole-number parts, keeps whether something is found, mode, guard, offset and metric, bit for bit, and
+-- multiplies both parts of the correlation by the gain twice. Without a gain this holds for all samples.
+-- Assumes nothing.
+use Prim.Native.Nat.{ℕ, zero, suc, _+_, _-_, _*_, _≤_, _<_}
+use mathlib.Core.Bool.{Bool, true, false, cond}
+use mathlib.Core.List.{List, [], _∷_}
+use mathlib.Core.Logic.{_⊎_, inl, inr}
+use mathlib.Core.Path.{_≡_, refl, sym, ap, subst, _∙_}
+use native.Mathlib.Omega.{arith}
+use lib.Dec.{leb, ltb}
+use lib.ListN.{length}
+use lib.Ieee.{Float, binary32, binary64, add, mul, div, lt, le}
+use Rattle.lists.specs.Lists.{range}
+use Rattle.lists.specs.Tests.{allIn, both-left, both-right}
+use Rattle.ieee.specs.Constants.{plusZero, plus-zero-is, half}
+use Rattle.ieee.specs.Levels.{Scaled, two}
+use Rattle.ieee.specs.Times.{Times, zero-times, le-times}
+use Rattle.ieee.specs.Gain.{times-of, scaled-product}
+use Rattle.complex.specs.Complex.{Pair, product, conjugate, squaredSize, norm64}
+use Rattle.complex.specs.Turns.{turned-product, turned-size}
+use Rattle.complex.specs.Gains.{BothScaled}
+use Rattle.complex.specs.Bounds.{most, WholePair, amplified, partLevel, stepLevel, energyLevel, guessLevel}
+use Rattle.complex.specs.Bounds.{part-gain, step-gain, energy-gain, metric-gain, correlation-roomy}
+use Rattle.spectra.specs.Spectra.{pairAt}
+use Rattle.spectra.specs.Changes.{turnIf, gainBy}
+use Rattle.guess.specs.Samples.{isMode, isGuard, fftOf, guardOf, symbolOf}
+use Rattle.guess.specs.Guess.{pairsIn, lagsIn, lagProduct, lagEnergy, correlationAt, energyAt, guessAt}
+use Rattle.guess.specs.Guess.{beats, offered, scan, triedGuard, triedMode, guessed}
+use Rattle.guess.specs.Windows.{correlation-same, energy-same, correlation-louder, energy-louder, correlation-fits}
+use Rattle.guess.specs.declared.ModeGuess.{ModeGuess}
+use Rattle.guess.specs.declared.GuardSearch.{GuardSearch}
+use Rattle.guess.specs.declared.GuardSearch.the-variants.{Found, Nothing, Refused}
+
+-- ys is xs, every pair turned by a quarter or none, and amplified by 2 ^ gain
+pub record Taken (turns : Bool) (gain : ℕ) (xs ys : List Float) : Type 0 where
+  pub long : length ys ≡ length xs
+  pub pairs : (i : ℕ) → i < pairsIn (length xs) → pairAt ys i ≡ turnIf turns (gainBy gain (pairAt xs i))
+
+-- the gain is 1, or it is at most 256 and all parts are whole numbers from -32,768 to 32,768
+abbrev pub AllowedGain : ℕ → List Float → Type 0
+AllowedGain gain xs = (gain ≡ 0) ⊎ ((gain ≤ most) × ((i : ℕ) → i < pairsIn (length xs) → WholePair (pairAt xs i)))
+
+-- a part of the correlation, times the gain twice
+abbrev pub twiceGained : ℕ → Float → Float
+twiceGained zero x = x
+twiceGained (suc k) x = mul binary64 x (two (2 * suc k))
+
+abbrev pub louder : ℕ → GuardSearch → GuardSearch
+louder k (Found g) =
+    Found (record { mode = g .mode; guard = g .guard; offset = g .offset; metric = g .metric; re = twiceGained k (g .re); im = twiceGained k (g .im) })
+louder k Nothing = Nothing
+louder k (Refused code) = Refused code
+
+-- ---- a search goes the same way where every step of it does
+abbrev louderGuess : ℕ → ModeGuess → ModeGuess
+louderGuess k g = record { mode = g .mode; guard = g .guard; offset = g .offset; metric = g .metric; re = twiceGained k (g .re); im = twiceGained k (g .im) }
+
+louder-cond : (k : ℕ) (b : Bool) (x y : GuardSearch) → cond b (louder k x) (louder k y) ≡ louder k (cond b x y)
+louder-cond k true x y = refl
+louder-cond k false x y = refl
+
+-- p says which entries are met
+louder-scan : (k : ℕ) (p : ℕ → Bool) (f g : GuardSearch → ℕ → GuardSearch) (xs : List ℕ) (best : GuardSearch) → allIn p xs ≡ true
+    → ((best : GuardSearch) (x : ℕ) → p x ≡ true → f (louder k best) x ≡ louder k (g best x)) → scan f (louder k best) xs ≡ louder k (scan g best xs)
+unfolding scan
+louder-scan k p f g [] best t h = refl
+louder-scan k p f g (x ∷ xs) best t h =
+    ap (λ (b : GuardSearch). scan f b xs) (h best x (both-left (p x) (allIn p xs) t)) ∙ louder-scan k p f g xs (g best x) (both-right (p x) (allIn p xs) t) h
+
+all-true : (xs : List ℕ) → allIn (λ x. true) xs ≡ true
+all-true [] = refl
+all-true (x ∷ xs) = all-true xs
+
+-- what ys has at an offset is what xs has there, but for the gain
+record Kept (k : ℕ) (xs ys : List Float) (mode guard d : ℕ) : Type 0 where
+  passed : le (energyAt ys mode guard d) (plusZero binary64) ≡ le (energyAt xs mode guard d) (plusZero binary64)
+  guess : guessAt ys mode guard d ≡ louderGuess k (guessAt xs mode guard d)
+
+module _ (k : ℕ) (xs ys : List Float) (long : length ys ≡ length xs)
+    (kept : (mode guard d : ℕ) → isMode mode ≡ true → Kept k xs ys mode guard d) where
+  beats-same : (mode guard d : ℕ) → isMode mode ≡ true → (best : GuardSearch)
+      → beats (guessAt ys mode guard d) (louder k best) ≡ beats (guessAt xs mode guard d) best
+  beats-same mode guard d m (Found best) = ap (λ (g : ModeGuess). lt (best .metric) (g .metric)) (kept mode guard d m .guess)
+  beats-same mode guard d m Nothing = refl
+  beats-same mode guard d m (Refused code) = refl
+
+  offered-louder : (mode guard : ℕ) → isMode mode ≡ true → (best : GuardSearch) (d : ℕ)
+      → offered ys mode guard (louder k best) d ≡ louder k (offered xs mode guard best d)
+  offered-louder mode guard m best d =
+      let e = kept mode guard d m in
+      let g = guessAt xs mode guard d in
+      let b = beats g best in
+      (λ i. cond (e .passed i) (louder k best) (cond (beats-same mode guard d m best i) (Found (e .guess i)) (louder k best)))
+      ∙ ap (λ (z : GuardSearch). cond (le (energyAt xs mode guard d) (plusZero binary64)) (louder k best) z) (louder-cond k b (Found g) best)
+      ∙ louder-cond k (le (energyAt xs mode guard d) (plusZero binary64)) best (cond b (Found g) best)
+
+  guard-louder : (mode : ℕ) → isMode mode ≡ true → (best : GuardSearch) (guard : ℕ)
+      → triedGuard ys mode (louder k best) guard ≡ louder k (triedGuard xs mode best guard)
+  unfolding triedGuard
+  guard-louder mode m best guard =
+      let offsets = range (symbolOf mode guard) in
+      let need = guardOf mode guard + 4 * symbolOf mode guard in
+      (λ i. cond (leb need (pairsIn (long i) - fftOf mode))
+      (louder-scan k (λ d. true) (offered ys mode guard) (offered xs mode guard) offsets best (all-true offsets) (λ b d t. offered-louder mode guard m b d) i)
+      (louder k best))
+      ∙ louder-cond k (leb need (lagsIn (fftOf mode) xs)) (scan (offered xs mode guard) best offsets) best
+
+  mode-louder : (guards : List ℕ) (best : GuardSearch) (mode : ℕ) → isMode mode ≡ true
+      → triedMode ys guards (louder k best) mode ≡ louder k (triedMode xs guards best mode)
+  unfolding triedMode
+  mode-louder guards best mode m =
+      (λ i. cond (ltb (fftOf mode) (pairsIn (long i)))
+      (louder-scan k (λ d. true) (triedGuard ys mode) (triedGuard xs mode) guards best (all-true guards) (λ b d t. guard-louder mode m b d) i)
+      (louder k best))
+      ∙ louder-cond k (ltb (fftOf mode) (pairsIn (length xs))) (scan (triedGuard xs mode) best guards) best
+
+  search-louder : (modes guards : List ℕ) → allIn isMode modes ≡ true → guessed ys modes guards ≡ louder k (guessed xs modes guards)
+  unfolding guessed
+  search-louder modes guards M = louder-scan k isMode (triedMode ys guards) (triedMode xs guards) modes Nothing M (λ b mode m. mode-louder guards b mode m)
+
+-- ---- two samples n apart: the turn cancels, and the gain stays
+turned-lag : (b : Bool) (x y : Pair) → product binary32 (turnIf b x) (conjugate (turnIf b y)) ≡ product binary32 x (conjugate y)
+turned-lag true x y = turned-product binary32 x y
+turned-lag false x y = refl
+
+turned-sample : (b : Bool) (x : Pair) → squaredSize binary32 (turnIf b x) ≡ squaredSize binary32 x
+turned-sample true x = turned-size binary32 x
+turned-sample false x = refl
+
+abbrev halved : Float → Float → Float
+halved a b = mul binary64 (add binary32 a b) half
+
+-- both samples are there
+first-in : (m n i : ℕ) → i < m - n → i < m
+first-in m n i h = omega arith
+
+second-in : (m n i : ℕ) → i < m - n → i + n < m
+second-in m n i h = omega arith
+
+module _ (turns : Bool) (gain : ℕ) (xs ys : List Float) (h : Taken turns gain xs ys) (n i : ℕ) (I : i < lagsIn n xs) where
+  p : pairAt ys i ≡ turnIf turns (gainBy gain (pairAt xs i))
+  p = h .pairs i (first-in (pairsIn (length xs)) n i I)
+
+  q : pairAt ys (i + n) ≡ turnIf turns (gainBy gain (pairAt xs (i + n)))
+  q = h .pairs (i + n) (second-in (pairsIn (length xs)) n i I)
+
+  lag-product : lagProduct n ys i ≡ product binary32 (gainBy gain (pairAt xs i)) (conjugate (gainBy gain (pairAt xs (i + n))))
+  lag-product = (λ j. product binary32 (p j) (conjugate (q j))) ∙ turned-lag turns (gainBy gain (pairAt xs i)) (gainBy gain (pairAt xs (i + n)))
+
+  lag-energy : lagEnergy n ys i ≡ halved (squaredSize binary32 (gainBy gain (pairAt xs i))) (squaredSize binary32 (gainBy gain (pairAt xs (i + n))))
+  lag-energy =
+      (λ j. halved (squaredSize binary32 (p j)) (squaredSize binary32 (q j)))
+      ∙ (λ j. halved (turned-sample turns (gainBy gain (pairAt xs i)) j) (turned-sample turns (gainBy gain (pairAt xs (i + n))) j))
+
+-- the guess at an offset is these sums
+guess-is : (k : ℕ) (xs ys : List Float) (mode guard d : ℕ) → let c = correlationAt xs mode guard d in let e = correlationAt ys mode guard d in
+    div binary64 (norm64 e) (energyAt ys mode guard d) ≡ div binary64 (norm64 c) (energyAt xs mode guard d)
+    → e .re ≡ twiceGained k (c .re) → e .im ≡ twiceGained k (c .im) → guessAt ys mode guard d ≡ louderGuess k (guessAt xs mode guard d)
+unfolding guessAt
+guess-is k xs ys mode guard d m r i = λ j. record { mode = mode; guard = guard; offset = d; metric = m j; re = r j; im = i j }
+
+-- ---- without a gain all sums are the same
+module _ (turns : Bool) (xs ys : List Float) (h : Taken turns 0 xs ys) (mode guard d : ℕ) where
+  turned-kept : Kept 0 xs ys mode guard d
+  turned-kept =
+      let c = correlation-same xs ys (h .long) mode guard d (λ i I. lag-product turns 0 xs ys h (fftOf mode) i I) in
+      let e = energy-same xs ys (h .long) mode guard d (λ i I. lag-energy turns 0 xs ys h (fftOf mode) i I) in
+      record {
+        passed = ap (λ (z : Float). le z (plusZero binary64)) e;
+        guess =
+            guess-is 0 xs ys mode guard d (λ j. div binary64 (norm64 (c j)) (e j)) (ap (λ (z : Pair). z .re) c) (ap (λ (z : Pair). z .im) c);
+      }
+
+-- ---- a gain goes into all sums twice
+-- at or below +0.0 or not is the same of both
+at-zero-gain : (k : ℕ) (x y : Float) → Scaled (guessLevel energyLevel) k x y → le y (plusZero binary64) ≡ le x (plusZero binary64)
+at-zero-gain k x y h =
+    sym (le-times (2 * k) x y _ _ (times-of k (guessLevel energyLevel) x y h)
+    (subst (λ (z : Float). Times (2 * k) z z) (sym (plus-zero-is binary64)) (zero-times (2 * k) false)))
+
+module _ (turns : Bool) (g : ℕ) (K : suc g ≤ most) (xs ys : List Float) (N : pairsIn (length xs) ≤ 1048576)
+    (w : (i : ℕ) → i < pairsIn (length xs) → WholePair (pairAt xs i)) (h : Taken turns (suc g) xs ys) where
+  abbrev k : ℕ
+  k = suc g
+
+  module _ (n i : ℕ) (I : i < lagsIn n xs) where
+    a : BothScaled partLevel k (pairAt xs i) (amplified k (pairAt xs i))
+    a = part-gain k K (pairAt xs i) (w i (first-in (pairsIn (length xs)) n i I))
+
+    b : BothScaled partLevel k (pairAt xs (i + n)) (amplified k (pairAt xs (i + n)))
+    b = part-gain k K (pairAt xs (i + n)) (w (i + n) (second-in (pairsIn (length xs)) n i I))
+
+    gained-product : BothScaled stepLevel k (lagProduct n xs i) (lagProduct n ys i)
+    gained-product =
+        subst (λ (z : Pair). BothScaled stepLevel k (lagProduct n xs i) z) (sym (lag-product turns k xs ys h n i I)) (step-gain k K _ _ _ _ a b)
+
+    gained-energy : Scaled energyLevel k (lagEnergy n xs i) (lagEnergy n ys i)
+    gained-energy =
+        subst (λ (z : Float). Scaled energyLevel k (lagEnergy n xs i) z) (sym (lag-energy turns k xs ys h n i I)) (energy-gain k K _ _ _ _ a b)
+
+  gained-kept : (mode guard d : ℕ) → isMode mode ≡ true → Kept k xs ys mode guard d
+  gained-kept mode guard d m =
+      let c = correlation-louder xs ys (h .long) mode guard d k K N m (λ i I. gained-product (fftOf mode) i I) in
+      let e = energy-louder xs ys (h .long) mode guard d k K N m (λ i I. gained-energy (fftOf mode) i I) in
+      let p = correlation-fits xs mode guard d in
+      let q = correlation-fits ys mode guard d in
+      record {
+        passed = at-zero-gain k _ _ e;
+        guess =
+            guess-is k xs ys mode guard d (sym (metric-gain k K _ _ _ _ c e))
+            (scaled-product binary64 most k (guessLevel stepLevel) _ _ K correlation-roomy (p .0) (q .0) (c .re))
+            (scaled-product binary64 most k (guessLevel stepLevel) _ _ K correlation-roomy (p .1) (q .1) (c .im));
+      }
+
+pub changed-guess : (turns : Bool) (gain : ℕ) (xs ys : List Float) (modes guards : List ℕ) → allIn isMode modes ≡ true → allIn isGuard guards ≡ true
+    → pairsIn (length xs) ≤ 1048576 → AllowedGain gain xs → Taken turns gain xs ys → guessed ys modes guards ≡ louder gain (guessed xs modes guards)
+changed-guess turns zero xs ys modes guards M G N A h =
+    search-louder 0 xs ys (h .long) (λ mode guard d m. turned-kept turns xs ys h mode guard d) modes guards M
+changed-guess turns (suc g) xs ys modes guards M G N A h =
+    elim A [
+      | inl z ↦ absurd (omega arith)
+      | inr w ↦ search-louder (suc g) xs ys (h .long) (λ mode guard d m. gained-kept turns g (w .0) xs ys N (w .1) h mode guard d m) modes guards M
+    ]

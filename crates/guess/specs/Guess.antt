@@ -1,0 +1,116 @@
+-- The guess (acquire.rs, `detect_mode`; document 01, "The guess"): guard-interval autocorrelation over samples, for each mode and guard of
+-- the lists and each offset within a symbol. Prefix sums of the lagged products and of the halved energies are made once a mode.
+-- Assumes nothing.
+use Prim.Native.Nat.{ℕ, _+_, _-_, _*_, _/_, _%_}
+use mathlib.Core.Bool.{Bool, true, _&&_, cond}
+use mathlib.Core.List.{List, [], _∷_, map}
+use mathlib.Core.Path.{_≡_}
+use lib.Dec.{leb, ltb, eqb}
+use lib.ListN.{getD, length}
+use lib.Ieee.{Float, nan, binary32, binary64, add, sub, mul, div, lt, le}
+use Rattle.ieee.specs.Constants.{plusZero, half}
+use Rattle.ieee.specs.Sums.{total, prefixes}
+use Rattle.lists.specs.Lists.{upTo, range, select}
+use Rattle.lists.specs.Refusals.{unless}
+use Rattle.lists.specs.Tests.{allIn}
+use Rattle.complex.specs.Complex.{Pair, pair, product, conjugate, squaredSize, norm64}
+use Rattle.spectra.specs.Spectra.{pairAt}
+use Rattle.guess.specs.Samples.{isMode, isGuard, fftOf, guardOf, symbolOf}
+use Rattle.guess.specs.declared.ModeGuess.{ModeGuess}
+use Rattle.guess.specs.declared.GuardSearch.{GuardSearch}
+use Rattle.guess.specs.declared.GuardSearch.the-variants.{Found, Nothing, Refused}
+
+-- ---- samples n apart: how many such pairs there are, their product, half of their energy
+abbrev pub pairsIn : ℕ → ℕ
+pairsIn floats = floats / 2
+
+abbrev pub lagsIn : ℕ → List Float → ℕ
+lagsIn n xs = pairsIn (length xs) - n
+
+abbrev pub lagProduct : ℕ → List Float → ℕ → Pair
+lagProduct n xs i = product binary32 (pairAt xs i) (conjugate (pairAt xs (i + n)))
+
+abbrev pub lagEnergy : ℕ → List Float → ℕ → Float
+lagEnergy n xs i = mul binary64 (add binary32 (squaredSize binary32 (pairAt xs i)) (squaredSize binary32 (pairAt xs (i + n)))) half
+
+-- ---- the prefix sums of a mode
+unfoldable pub realPrefixes : ℕ → List Float → List Float
+realPrefixes n xs = prefixes binary64 (plusZero binary64) (upTo (λ i. lagProduct n xs i .re) (lagsIn n xs))
+
+unfoldable pub imaginaryPrefixes : ℕ → List Float → List Float
+imaginaryPrefixes n xs = prefixes binary64 (plusZero binary64) (upTo (λ i. lagProduct n xs i .im) (lagsIn n xs))
+
+unfoldable pub energyPrefixes : ℕ → List Float → List Float
+energyPrefixes n xs = prefixes binary64 (plusZero binary64) (upTo (lagEnergy n xs) (lagsIn n xs))
+
+-- ---- an offset d: its guards start a symbol p apart, and only those count that end within the len lags
+unfoldable pub starts : ℕ → ℕ → ℕ → ℕ → List ℕ
+starts p ng len d = select (λ a. leb (a + ng) len) (upTo (λ s. d + s * p) ((len - ng) / p))
+
+-- the sum over the guards, from prefix sums
+unfoldable pub windowSum : List Float → ℕ → List ℕ → Float
+windowSum sums ng from = total binary64 (plusZero binary64) (map (λ a. sub binary64 (getD sums (a + ng) nan) (getD sums a nan)) from)
+
+-- the summed correlation and energy at an offset
+unfoldable pub correlationAt : List Float → ℕ → ℕ → ℕ → Pair
+correlationAt xs mode guard d =
+    let n = fftOf mode in
+    let from = starts (symbolOf mode guard) (guardOf mode guard) (lagsIn n xs) d in
+    pair (windowSum (realPrefixes n xs) (guardOf mode guard) from) (windowSum (imaginaryPrefixes n xs) (guardOf mode guard) from)
+
+unfoldable pub energyAt : List Float → ℕ → ℕ → ℕ → Float
+energyAt xs mode guard d =
+    let n = fftOf mode in
+    windowSum (energyPrefixes n xs) (guardOf mode guard) (starts (symbolOf mode guard) (guardOf mode guard) (lagsIn n xs) d)
+
+unfoldable pub guessAt : List Float → ℕ → ℕ → ℕ → ModeGuess
+guessAt xs mode guard d =
+    let g = correlationAt xs mode guard d in
+    record { mode = mode; guard = guard; offset = d; metric = div binary64 (norm64 g) (energyAt xs mode guard d); re = g .re; im = g .im }
+
+-- ---- the search. An offset with energy at or below zero is passed over; the first other is taken, and then only a greater metric
+abbrev pub beats : ModeGuess → GuardSearch → Bool
+beats guess (Found best) = lt (best .metric) (guess .metric)
+beats guess Nothing = true
+beats guess (Refused code) = true
+
+abbrev pub offered : List Float → ℕ → ℕ → GuardSearch → ℕ → GuardSearch
+offered xs mode guard best d =
+    cond (le (energyAt xs mode guard d) (plusZero binary64)) best (cond (beats (guessAt xs mode guard d) best) (Found (guessAt xs mode guard d)) best)
+
+-- one after the other
+unfoldable pub scan : (GuardSearch → ℕ → GuardSearch) → GuardSearch → List ℕ → GuardSearch
+scan f best [] = best
+scan f best (x ∷ xs) = scan f (f best x) xs
+
+-- a guard is tried where five of its symbols fit
+unfoldable pub triedGuard : List Float → ℕ → GuardSearch → ℕ → GuardSearch
+triedGuard xs mode best guard =
+    cond (leb (guardOf mode guard + 4 * symbolOf mode guard) (lagsIn (fftOf mode) xs)) (scan (offered xs mode guard) best (range (symbolOf mode guard))) best
+
+unfoldable pub triedMode : List Float → List ℕ → GuardSearch → ℕ → GuardSearch
+triedMode xs guards best mode = cond (ltb (fftOf mode) (pairsIn (length xs))) (scan (triedGuard xs mode) best guards) best
+
+unfoldable pub guessed : List Float → List ℕ → List ℕ → GuardSearch
+guessed xs modes guards = scan (triedMode xs guards) Nothing modes
+
+-- ---- the operation: 1; 9; 5 for an odd length or more than 1,048,576 pairs; 7 unless the scratch has 3 × (pairs + 1) entries or more
+unfoldable pub guessCode : List ℕ → List ℕ → ℕ → ℕ → ℕ
+guessCode modes guards floats scratch =
+    unless (allIn isMode modes) 1
+    (unless (allIn isGuard guards) 9
+    (unless (eqb (floats % 2) 0 && leb (pairsIn floats) 1048576) 5
+    (unless (leb (3 * (pairsIn floats + 1)) scratch) 7 0)))
+
+unfoldable pub guessAnswer : List Float → List ℕ → List ℕ → ℕ → GuardSearch
+guessAnswer xs modes guards scratch =
+    let code = guessCode modes guards (length xs) scratch in
+    cond (eqb code 0) (guessed xs modes guards) (Refused code)
+
+-- the scratch at exit: zeros, all of it, after an accepted call
+unfoldable pub scratchLeaves : ℕ → List ℕ → List ℕ → List Float → List Float
+scratchLeaves floats modes guards old = cond (eqb (guessCode modes guards floats (length old)) 0) (upTo (λ i. plusZero binary64) (length old)) old
+
+pub record Searched (xs : List Float) (modes guards : List ℕ) (old : List Float) (r : GuardSearch) (now : List Float) : Type 0 where
+  pub answer : r ≡ guessAnswer xs modes guards (length old)
+  pub leaves : now ≡ scratchLeaves (length xs) modes guards old

@@ -1,0 +1,46 @@
+-- What the tests on the way to a return make of the definition of `tmcc_soft`.
+-- Assumes nothing.
+use Prim.Native.Nat.{ℕ, _*_, _≤_, _<_}
+use mathlib.Core.Bool.{Bool, true, false}
+use mathlib.Core.List.{List}
+use mathlib.Core.Path.{_≡_, refl, ap, _∙_}
+use borrow.Author.Tests.{eq-eqb, ne-eqb, le-leb, lt-leb}
+use lib.ListN.{length}
+use lib.Ieee.{Float}
+use Rattle.params.specs.declared.Mode.{Mode}
+use Rattle.params.specs.declared.ModeNumber.{ModeNumber}
+use Rattle.params.specs.declared.ModeNumber.the-variants.{Known, Unknown}
+use Rattle.params.specs.Params.{totalCarriers}
+use Rattle.frame.specs.Operations.{areKinds, layoutCode}
+use Rattle.frame.specs.Written.{AcceptedLayout}
+use Rattle.frame.specs.Returns.{kinds-good}
+use Rattle.tmcc.specs.declared.SoftTmcc.the-variants.{Value, Refused}
+use Rattle.tmcc.specs.Tmcc.{softValue, softCode, softAnswer}
+
+module _ (number : ModeNumber) (kinds : List ℕ) (code : ℕ) (m : Mode) (read : List ℕ) (a : AcceptedLayout number kinds code m read) (xs : List Float) (filter : ℕ) where
+  pub refused-layout : (code ≡ 0 → ⊥) → Refused code ≡ softAnswer number kinds xs filter
+  unfolding layoutCode softCode softAnswer
+  refused-layout h = by number (a .refusal)
+    where
+      tested : (k : Mode) (good : Bool) → areKinds kinds ≡ good → code ≡ layoutCode (Known k) kinds → Refused code ≡ softAnswer (Known k) kinds xs filter
+      tested k true g e = absurd (h (rw g at e))
+      tested k false g e = rw g (ap Refused (rw g at e))
+
+      by : (n : ModeNumber) → code ≡ layoutCode n kinds → Refused code ≡ softAnswer n kinds xs filter
+      by Unknown e = ap Refused e
+      by (Known k) e = tested k (areKinds kinds) refl e
+
+  -- a layout that was accepted, of a band of k carriers
+  module _ (z : code ≡ 0) (k : ℕ) (band : k ≡ totalCarriers m) where
+    pub refused-length : (length xs ≡ 4 * k → ⊥) → Refused 5 ≡ softAnswer number kinds xs filter
+    unfolding softCode softAnswer
+    refused-length h = rw (a .known z, kinds-good _ _ _ _ _ a z, ← band, ne-eqb _ _ h)
+
+    module _ (two : length xs ≡ 4 * k) where
+      pub refused-filter : 2 < filter → Refused 3 ≡ softAnswer number kinds xs filter
+      unfolding softCode softAnswer
+      refused-filter h = rw (a .known z, kinds-good _ _ _ _ _ a z, ← band, eq-eqb _ _ two, lt-leb _ _ h)
+
+      pub answered : (v : Float) → filter ≤ 2 → v ≡ softValue m read filter xs → Value v ≡ softAnswer number kinds xs filter
+      unfolding softCode softAnswer
+      answered v h e = rw (a .known z, kinds-good _ _ _ _ _ a z, ← band, eq-eqb _ _ two, le-leb _ _ h) (ap Value (e ∙ rw (a .same z)))

@@ -1,0 +1,97 @@
+-- What `soft_value` keeps: the terms of the segments so far are added up.
+-- Assumes nothing.
+use Prim.Native.Nat.{ℕ, suc, _+_, _*_, _≤_, _<_}
+use mathlib.Core.Bool.{Bool, true, false, cond}
+use mathlib.Core.List.{List, [], _∷_, _++_, append-nil, map, map-append, map-map}
+use mathlib.Core.Path.{_≡_, refl, sym, ap, _∙_}
+use native.Mathlib.Numerals.{add-one}
+use native.Mathlib.Omega.{arith}
+use lib.Ieee.{Float, binary32}
+use lib.ListN.{length, getD, take, length-take}
+use Rattle.ieee.specs.Constants.{minusZero}
+use Rattle.ieee.specs.Sums.{total}
+use Rattle.lists.specs.Lists.{range, joined}
+use Rattle.lists.specs.Fill.{joined-append}
+use Rattle.params.specs.declared.Mode.{Mode}
+use Rattle.params.specs.declared.SegmentKind.{SegmentKind}
+use Rattle.params.specs.Params.{carriersPerSegment, totalCarriers, kindFrom}
+use Rattle.params.specs.Laws.{sized}
+use Rattle.tables.specs.declared.Positions.{Positions}
+use Rattle.tables.specs.Places.{Listed, tmccOf}
+use Rattle.tables.specs.Rule.{tmcc-below}
+use Rattle.ofdm.specs.Band.{segmentAt}
+use Rattle.ofdm.specs.Laws.{segment-ends}
+use Rattle.tmcc.specs.Tmcc.{passes, placeTmcc, tmccCarriers, softTerm, softValue}
+use Rattle.tmcc.specs.Inner.{Addable, addedTo}
+
+-- ---- one segment more
+total-append : (s : Float) (xs ys : List Float) → total binary32 s (xs ++ ys) ≡ total binary32 (total binary32 s xs) ys
+unfolding total
+total-append s [] ys = refl
+total-append s (x ∷ xs) ys = total-append _ xs ys
+
+one-more : (f : ℕ → List ℕ) (n : ℕ) → joined f (range (suc n)) ≡ joined f (range n) ++ f n
+one-more f n = rw (joined-append f (range n) (n ∷ []), append-nil)
+
+-- ---- a row's front, lent
+module _ (r : Positions) (ps : List ℕ) (l : Listed r ps) where
+  pub front-length : r .count ≡ length (take (r .count) (r .places))
+  front-length = l .count ∙ sym (ap length (l .places))
+
+  pub front-room : r .count ≤ length (r .places)
+  front-room = omega (arith, front-length, length-take (r .count) (r .places))
+
+-- ---- the segment at a place of the band, of c carriers
+module _ (mode : Mode) (c place : ℕ) (sizes : c ≡ carriersPerSegment mode) (h : place < 13) where
+  pub first-small : place * c ≤ 5617
+  first-small = rw sizes (omega (arith, segment-ends mode place h, sized mode .band-high))
+
+  -- the places of its row can be added
+  pub addable : (len n : ℕ) (kind : SegmentKind) (seg : ℕ) (r : Positions) → len ≡ totalCarriers mode → n ≡ 4 * totalCarriers mode → seg < 13
+      → Listed r (tmccOf mode kind seg) → Addable (take (r .count) (r .places)) (place * c) len n
+  addable len n kind seg r band two in-table l =
+      rw (l .places, sizes, band)
+      (record {
+        inside = λ i t. omega (arith, segment-ends mode place h, tmcc-below mode kind seg in-table i t);
+        two = two;
+      })
+
+-- ---- the loop
+module _ (mode : Mode) (kinds : List ℕ) (filter : ℕ) (xs : List Float) where
+  abbrev terms : List ℕ → List Float
+  terms carriers = map (softTerm (totalCarriers mode) xs) carriers
+
+  abbrev carriersAt : ℕ → List ℕ
+  carriersAt place = placeTmcc mode kinds filter place
+
+  pub record Summed (sum : Float) (place : ℕ) : Type 0 where
+    pub passed : place ≤ 13
+    pub summed : sum ≡ total binary32 minusZero (terms (joined carriersAt (range place)))
+
+  pub begin : Summed minusZero 0
+  unfolding total
+  begin = record { passed = omega arith; summed = refl }
+
+  pub done : (sum : Float) (place : ℕ) → Summed sum place → 13 ≤ place → sum ≡ softValue mode kinds filter xs
+  unfolding softValue tmccCarriers
+  done sum place s h =
+      let all : place ≡ 13 = omega (arith, s .passed) in
+      rw all at (s .summed)
+
+  module _ (sum : Float) (place : ℕ) (s : Summed sum place) (h : place < 13) where
+    more : (sum' : Float) → sum' ≡ total binary32 sum (terms (carriersAt place)) → Summed sum' (place + 1)
+    more sum' e = record { passed = omega arith; summed = e ∙ rw (add-one place, one-more carriersAt place, map-append, total-append, s .summed) }
+
+    -- the segment at the place, and whether its kind passes
+    module _ (seg : ℕ) (kind : SegmentKind) (b : Bool) (at : seg ≡ segmentAt place) (k : kind ≡ kindFrom (getD kinds seg 0)) (told : b ≡ passes filter kind) where
+      carriers-are : carriersAt place ≡ cond b (map (λ p. place * carriersPerSegment mode + p) (tmccOf mode kind seg)) []
+      carriers-are = rw (told, k, at)
+
+      pub skip : b ≡ false → Summed sum (place + 1)
+      unfolding total
+      skip e = more sum (rw (carriers-are, e))
+
+      pub further : (c len : ℕ) (r : Positions) (sum' : Float) → b ≡ true → c ≡ carriersPerSegment mode → len ≡ totalCarriers mode → Listed r (tmccOf mode kind seg)
+          → sum' ≡ addedTo sum len xs (place * c) (take (r .count) (r .places)) → Summed sum' (place + 1)
+      unfolding addedTo
+      further c len r sum' e sizes band l a = more sum' (a ∙ rw (carriers-are, e, map-map, l .places, sizes, band))

@@ -1,0 +1,2 @@
+pub mod Tmcc
+pub mod Inner
