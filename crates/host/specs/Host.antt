@@ -16,6 +16,13 @@ use Rattle.ofdm.specs.Band.{binLookup}
 use Rattle.carrier_lists.specs.declared.ContinualList.{ContinualList}
 use Rattle.carrier_lists.specs.declared.ContinualList.the-variants as continual-list
 use Rattle.carrier_lists.specs.Operations.{continualListAnswer, continualListLeaves}
+use Rattle.guess.specs.declared.SamplesNeeded.{SamplesNeeded}
+use Rattle.guess.specs.declared.SamplesNeeded.the-variants as samples-needed
+use Rattle.guess.specs.declared.ModeGuess.{ModeGuess}
+use Rattle.guess.specs.declared.GuardSearch.{GuardSearch}
+use Rattle.guess.specs.declared.GuardSearch.the-variants as guard-search
+use Rattle.tmcc.specs.declared.SoftTmcc.{SoftTmcc}
+use Rattle.tmcc.specs.declared.SoftTmcc.the-variants as soft-tmcc
 use Rattle.segment_kinds.specs.SegmentKinds.{kindsCode, kindsAnswer, scoresAnswer, kindsLeaves}
 use Rattle.shift.specs.declared.ShiftAnswer.{ShiftAnswer}
 use Rattle.shift.specs.declared.ShiftAnswer.the-variants as shift-answer
@@ -72,3 +79,56 @@ pub record KindsLent (mode : ModeNumber) (xs old : List Float) (ks : List ℕ) (
   pub kinds : ks' ≡ cond (eqb (kindsCode mode (length xs) (length old)) 0) (kindsAnswer mode xs (length old)) ks
   pub scores : ss' ≡ cond (eqb (kindsCode mode (length xs) (length old)) 0) (scoresAnswer mode xs (length old)) ss
   pub leaves : now ≡ kindsLeaves mode xs old
+
+-- ---- the guess
+abbrev pub samplesCode : SamplesNeeded → ℕ
+samplesCode (samples-needed.Samples n) = 0
+samplesCode (samples-needed.Refused code) = code
+
+abbrev pub samplesOf : SamplesNeeded → ℕ → ℕ
+samplesOf (samples-needed.Samples n) lent = n
+samplesOf (samples-needed.Refused code) lent = lent
+
+abbrev pub searchCode : GuardSearch → ℕ
+searchCode (guard-search.Found g) = 0
+searchCode guard-search.Nothing = 0
+searchCode (guard-search.Refused code) = code
+
+-- 1 where something is found, 0 where nothing is
+abbrev pub searchFound : GuardSearch → ℕ → ℕ
+searchFound (guard-search.Found g) lent = 1
+searchFound guard-search.Nothing lent = 0
+searchFound (guard-search.Refused code) lent = lent
+
+abbrev pub softCode : SoftTmcc → ℕ
+softCode (soft-tmcc.Value v) = 0
+softCode (soft-tmcc.Refused code) = code
+
+abbrev pub softOf : SoftTmcc → Float → Float
+softOf (soft-tmcc.Value v) lent = v
+softOf (soft-tmcc.Refused code) lent = lent
+
+pub record SamplesLent (a : SamplesNeeded) (n r n' : ℕ) : Type 0 where
+  pub code : r ≡ samplesCode a
+  pub samples : n' ≡ samplesOf a n
+
+-- what a guess tells, where there is one
+abbrev pub ofGuess : {A : Type 0} → (ModeGuess → A) → GuardSearch → A → A
+ofGuess get (guard-search.Found g) lent = get g
+ofGuess get guard-search.Nothing lent = lent
+ofGuess get (guard-search.Refused code) lent = lent
+
+pub record GuessLent (a : GuardSearch) (f m g o : ℕ) (t x y : Float) (r f' m' g' o' : ℕ) (t' x' y' : Float) : Type 0 where
+  pub code : r ≡ searchCode a
+  pub found : f' ≡ searchFound a f
+  pub mode : m' ≡ ofGuess (λ q. q .mode) a m
+  pub guard : g' ≡ ofGuess (λ q. q .guard) a g
+  pub offset : o' ≡ ofGuess (λ q. q .offset) a o
+  pub metric : t' ≡ ofGuess (λ q. q .metric) a t
+  pub re : x' ≡ ofGuess (λ q. q .re) a x
+  pub im : y' ≡ ofGuess (λ q. q .im) a y
+
+-- ---- the soft TMCC value
+pub record SoftLent (a : SoftTmcc) (v : Float) (r : ℕ) (v' : Float) : Type 0 where
+  pub code : r ≡ softCode a
+  pub value : v' ≡ softOf a v

@@ -10,13 +10,20 @@ ghost use Rattle.complex.specs.Complex.{pair, norm32, norm64};
 ghost use Rattle.prbs.specs.SignMap.{SignMap};
 ghost use Rattle.frame.specs.Operations.{RoleMap};
 ghost use Rattle.carrier_lists.specs.Operations.{DataList};
-ghost use Rattle.host.specs.Host.{CarrierBin, ContinualCount, ShiftLent, KindsLent};
+ghost use Rattle.host.specs.Host.{CarrierBin, ContinualCount, ShiftLent, KindsLent, SamplesLent, GuessLent, SoftLent};
+ghost use lib.ListN.{length};
+ghost use Rattle.guess.specs.Samples.{samplesAnswer};
+ghost use Rattle.guess.specs.Guess.{guessAnswer, scratchLeaves};
+ghost use Rattle.tmcc.specs.Tmcc.{softAnswer};
 use carrier_lists::ContinualList;
 use complex::C32;
 use complex::C64;
+use guess::GuardSearch;
+use guess::SamplesNeeded;
 use ofdm::BandCarrier;
 use ofdm::BinLookup;
 use shift::ShiftAnswer;
+use tmcc::SoftTmcc;
 
 // The FFT bin of carrier k.
 #[no_mangle]
@@ -72,6 +79,82 @@ pub extern "C" fn sillurwy_continual_list(
             0
         }
         ContinualList::Refused(code) => code,
+    }
+}
+
+// Samples that the guard search needs for at least `symbols` symbols.
+#[no_mangle]
+pub extern "C" fn sillurwy_samples_needed(
+    modes: &[u8],
+    guards: &[u8],
+    symbols: usize,
+    samples: &mut usize,
+) -> u8
+    ensures { λ r. ⌜ SamplesLent (samplesAnswer (now (modes .entry)) (now (guards .entry)) symbols) (now (samples .entry)) r (now (samples .exit)) ⌝ }
+{
+    match guess::samples_needed(modes, guards, symbols) {
+        SamplesNeeded::Samples(n) => {
+            *samples = n;
+            0
+        }
+        SamplesNeeded::Refused(code) => code,
+    }
+}
+
+// The guard search: whether something is found, then the guess. Where nothing is found, what was lent
+// for the guess stays as it was.
+#[no_mangle]
+pub extern "C" fn sillurwy_detect_mode(
+    samples: &[f32],
+    modes: &[u8],
+    guards: &[u8],
+    scratch: &mut [f64],
+    found: &mut u8,
+    mode: &mut u8,
+    guard: &mut u8,
+    offset: &mut usize,
+    metric: &mut f64,
+    re: &mut f64,
+    im: &mut f64,
+) -> u8
+    ensures { λ r. ⌜ GuessLent (guessAnswer (now (samples .entry)) (now (modes .entry)) (now (guards .entry)) (length (now (scratch .entry)))) (now (found .entry)) (now (mode .entry)) (now (guard .entry)) (now (offset .entry)) (now (metric .entry)) (now (re .entry)) (now (im .entry)) r (now (found .exit)) (now (mode .exit)) (now (guard .exit)) (now (offset .exit)) (now (metric .exit)) (now (re .exit)) (now (im .exit)) × now (scratch .exit) ≡ scratchLeaves (length (now (samples .entry))) (now (modes .entry)) (now (guards .entry)) (now (scratch .entry)) ⌝ }
+{
+    match guess::detect_mode(samples, modes, guards, scratch) {
+        GuardSearch::Found(g) => {
+            *found = 1;
+            *mode = g.mode;
+            *guard = g.guard;
+            *offset = g.offset;
+            *metric = g.metric;
+            *re = g.re;
+            *im = g.im;
+            0
+        }
+        GuardSearch::Nothing => {
+            *found = 0;
+            0
+        }
+        GuardSearch::Refused(code) => code,
+    }
+}
+
+// The soft value of the TMCC carriers between two spectra.
+#[no_mangle]
+pub extern "C" fn sillurwy_tmcc_soft(
+    mode: u8,
+    kinds: &[u8],
+    spectra: &[f32],
+    filter: u8,
+    value: &mut f32,
+) -> u8
+    ensures { λ r. ⌜ SoftLent (softAnswer (modeFrom mode) (now (kinds .entry)) (now (spectra .entry)) filter) (now (value .entry)) r (now (value .exit)) ⌝ }
+{
+    match tmcc::tmcc_soft(mode, kinds, spectra, filter) {
+        SoftTmcc::Value(v) => {
+            *value = v;
+            0
+        }
+        SoftTmcc::Refused(code) => code,
     }
 }
 

@@ -4,19 +4,20 @@
 -- Assumes nothing.
 use mathlib.Core.Path.{_≡_, refl, sym, ap, _∙_, subst}
 use mathlib.Core.Bool.{Bool, true, false, not, _&&_, _||_, cond, true≢false, false≢true}
-use Prim.Native.Nat.{ℕ, zero, suc, _+_, _*_, _<_, _≤_}
+use Prim.Native.Nat.{ℕ, zero, suc, _+_, _*_, _^_, _<_, _≤_}
 use native.Mathlib.Nat.{le-refl, zero-mul, zero-add, add-zero, add-comm, mul-pos, mul-comm, mul-mul-mul-comm, mul-le-mul-right, le-of-mul-le-mul-right}
 use native.Mathlib.Omega.{arith}
 use lib.IntN.{ℤ, pos}
 use lib.Arith.{lt→nleb, le-zero}
-use lib.Dec.{T, ltb, leb, eqb, ltb→lt, lt→ltb, nleb→lt, leb→le, le→leb, eqb→eq, leb·zero, leb·suc-zero, leb·suc-suc, eqb·suc-zero, eqb·suc-suc, T-not, not-T}
+use lib.Dec.{T, ltb, leb, eqb, ltb→lt, lt→ltb, nleb→lt, leb→le, le→leb, eqb→eq, leb·zero, leb·suc-zero, leb·suc-suc, eqb·suc-zero, eqb·suc-suc, T-not, not-T, lit<}
 use lib.Ieee.{Float, nan, inf, fin, Format, up, down, round, below, level, neg, div, lt, le, eq, ne, isNan}
 use lib.Ieee.Fits.{down-pos, eq→eqb, and-l, and-r, and-i}
 use lib.Ieee.Compare.{differs-from-itself}
 use lib.Ieee.Order.{round-mono}
 use lib.Ieee.Positive.{positive, num, den, den-pos, own-value, value-pos}
 use Rattle.ieee.specs.Numbers.{same-bool, eqb-same}
-use Rattle.ieee.specs.Signs.{unlike-false, round-neg}
+use Rattle.ieee.specs.Constants.{lowest, lowest-is}
+use Rattle.ieee.specs.Signs.{negative, unlike-false, round-neg}
 use Rattle.ieee.specs.Zeros.{round-zero}
 use Rattle.ieee.specs.Times.{most, most-scale}
 
@@ -317,3 +318,17 @@ quotient-beats f x y d p h =
     let k : T (le a b) = lt-le a b h in
     lt-of-no-le x y (sym (quotient-nan f x d p) ∙ number-l a b k) (sym (quotient-nan f y d p) ∙ number-r a b k)
     (λ g. lt-no-le a b h (quotient-mono f y x d p g))
+
+-- ---- `f32::MIN` loses to what has no minus sign and beats something, which a NaN does not
+pub lowest-loses : (x y : Float) → T (lt x y) → negative y ≡ false → T (lt lowest y)
+unfolding lt
+lowest-loses x nan h p = absurd (subst T (lt-nan x) h)
+lowest-loses x (inf true) h p = absurd (true≢false p)
+lowest-loses x (inf false) h p = rw lowest-is tt
+lowest-loses x (fin true n d) h p = absurd (true≢false p)
+lowest-loses x (fin false n d) h p =
+    let some : 0 < 16777215 * 2 ^ 104 = lit< tt in
+    rw lowest-is (lt→ltb 0 (16777215 * 2 ^ 104 * down d + n * up d * 1) (still _ (n * up d * 1) (mul-pos some (down-pos d))))
+  where
+    still : (a b : ℕ) → 0 < a → 0 < a + b
+    still a b h = omega arith

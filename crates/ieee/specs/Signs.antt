@@ -3,12 +3,15 @@
 -- Assumes nothing.
 use mathlib.Core.Path.{_≡_, refl, sym, ap, _∙_}
 use mathlib.Core.Bool.{Bool, true, false, not, _&&_, cond, true≢false}
-use Prim.Native.Nat.{ℕ, zero, suc, _+_, _-_, _*_, _^_, _<_, _≤_}
-use native.Mathlib.Nat.{mul-comm, add-comm}
+use Prim.Native.Nat.{ℕ, zero, suc, _+_, _-_, _*_, _/_, _^_, _<_, _≤_}
+use native.Mathlib.Nat.{zero-mul, mul-comm, add-comm}
 use native.Mathlib.Omega.{arith}
-use lib.Dec.{T, ltb, eqb, ltb→lt, nltb→le}
-use lib.Ieee.{Float, nan, inf, fin, Format, prec, emax, low, up, down, unlike, odd, units, round, neg, sum, add, mul}
+use lib.IntN.{ℤ}
+use lib.Dec.{T, ltb, eqb, ltb→lt, nltb→le, leb·suc-zero}
+use lib.Ieee.{Float, nan, inf, fin, Format, binary32, binary64, prec, emax, low, up, down, unlike, odd, units, round, neg, sum, add, mul, div}
 use lib.Ieee.Fits.{round-is}
+use Rattle.ieee.specs.Root.{rootUnits, rootKept, rootDrop, rootOf}
+use Rattle.ieee.specs.Narrow.{narrowOf}
 
 -- ---- the order of the operands
 unlike-comm : (s t : Bool) → unlike s t ≡ unlike t s
@@ -194,3 +197,54 @@ plus-sign f (fin s m e) (inf t) p q = q
 plus-sign f (fin true m e) (fin t n d) p q = absurd (true≢false p)
 plus-sign f (fin false m e) (fin true n d) p q = absurd (true≢false q)
 plus-sign f (fin false m e) (fin false n d) p q = round-sign f false _ _
+
+-- a sum that starts at -0.0 has lost the minus sign after one addition
+pub zero-plus-sign : (f : Format) (s : Bool) (e : ℤ) (y : Float) → negative y ≡ false → negative (add f (fin s 0 e) y) ≡ false
+unfolding add sum
+zero-plus-sign f s e nan q = refl
+zero-plus-sign f s e (inf t) q = q
+zero-plus-sign f s e (fin true n d) q = absurd (true≢false q)
+zero-plus-sign f false e (fin false n d) q = round-sign f false _ _
+zero-plus-sign f true e (fin false n d) q =
+    let b = n * up d * down e in
+    rw (zero-mul (up e), zero-mul (down d), leb·suc-zero b) (by (ltb 0 b) b (down e * down d))
+  where
+    by : (l : Bool) (b c : ℕ) → negative (cond l (round f false (b - 0) c) (round f false (0 - b) c)) ≡ false
+    by true b c = round-sign f false _ _
+    by false b c = round-sign f false _ _
+
+pub quotient-sign : (f : Format) (x y : Float) → negative x ≡ false → negative y ≡ false → negative (div f x y) ≡ false
+unfolding div
+quotient-sign f nan y p q = refl
+quotient-sign f (inf s) nan p q = refl
+quotient-sign f (inf s) (inf t) p q = refl
+quotient-sign f (inf s) (fin t n d) p q = rw (p, q)
+quotient-sign f (fin s m e) nan p q = refl
+quotient-sign f (fin s m e) (inf t) p q = rw (p, q)
+quotient-sign f (fin s m e) (fin t n d) p q = rw (p, q) (by (eqb n 0) (eqb m 0))
+  where
+    by : (a b : Bool) → negative (cond a (cond b nan (inf false)) (round f false (m * up e * down d) (n * up d * down e))) ≡ false
+    by true true = refl
+    by true false = refl
+    by false b = round-sign f false _ _
+
+-- ---- of a root and of a narrowed value
+root-units-sign : (n : ℕ) → negative (rootUnits n) ≡ false
+unfolding rootUnits
+root-units-sign n = units-sign binary64 false (rootKept n) (rootDrop n)
+
+-- the only root with a minus sign is that of -0.0
+pub root-sign : (x : Float) → negative x ≡ false → negative (rootOf x) ≡ false
+unfolding rootOf
+root-sign nan p = refl
+root-sign (inf true) p = refl
+root-sign (inf false) p = refl
+root-sign (fin s zero e) p = p
+root-sign (fin true (suc m) e) p = refl
+root-sign (fin false (suc m) e) p = root-units-sign (suc m * up e * 2 ^ 1074 / down e * 2 ^ 1074)
+
+pub narrow-sign : (x : Float) → negative (narrowOf x) ≡ negative x
+unfolding narrowOf
+narrow-sign nan = refl
+narrow-sign (inf s) = refl
+narrow-sign (fin s m e) = round-sign binary32 s (m * up e) (down e)

@@ -1,7 +1,8 @@
 -- Long sums: a list added up from the left, and the list of its prefix sums. Under a gain they keep the factor as long as the level of the
--- whole sum is roomy; and a sum that starts at +0.0 never becomes -0.0.
+-- whole sum is roomy; a sum that starts at +0.0 never becomes -0.0; and a sum of values without a minus sign has none.
 -- Assumes nothing.
-use mathlib.Core.List.{List, [], _∷_}
+use mathlib.Core.Bool.{false}
+use mathlib.Core.List.{List, [], _∷_, map}
 use mathlib.Core.Path.{_≡_}
 use Prim.Native.Nat.{ℕ, suc, _+_, _≤_}
 use native.Mathlib.Omega.{arith}
@@ -9,6 +10,7 @@ use lib.Dec.{T}
 use lib.ListN.{length}
 use lib.Ieee.{Float, Format, add, fits}
 use lib.Ieee.Fits.{add-fits}
+use Rattle.ieee.specs.Signs.{negative, plus-sign}
 use Rattle.ieee.specs.Zeros.{canon, plus-alike, plus-plain}
 use Rattle.ieee.specs.Levels.{Level, Scaled, roomy, many}
 use Rattle.ieee.specs.Gain.{roomy-fewer, plus-scaled, one-scaled, more-scaled}
@@ -84,3 +86,10 @@ pub total-plain : (f : Format) (s : Float) (xs : List Float) → T (fits f s) �
 unfolding total Held
 total-plain f s [] p h g = h
 total-plain f s (x ∷ xs) p h g = total-plain f (add f s x) xs (add-fits f s x) (plus-plain f s x p (g .0) h) (g .1)
+
+-- ---- no minus sign
+pub total-sign : {A : Type 0} (f : Format) (s : Float) (g : A → Float) (xs : List A) → negative s ≡ false → ((x : A) → negative (g x) ≡ false)
+    → negative (total f s (map g xs)) ≡ false
+unfolding total
+total-sign f s g [] p h = p
+total-sign f s g (x ∷ xs) p h = total-sign f (add f s (g x)) g xs (plus-sign f s (g x) p (h x)) h

@@ -1,3 +1,4 @@
 pub mod Ratio
 pub mod Inner
 pub mod Unchanged
+pub mod NoMinus

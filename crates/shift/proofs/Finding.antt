@@ -2,8 +2,8 @@
 -- Assumes nothing.
 use Prim.Native.Nat.{ℕ, _+_, _*_, _-_, _≤_, _<_}
 use mathlib.Core.Bool.{Bool, true, false, cond}
-use mathlib.Core.List.{List, [], _∷_, _++_, map, map-append}
-use mathlib.Core.Path.{_≡_, refl, sym, ap, _∙_}
+use mathlib.Core.List.{List, map, map-append}
+use mathlib.Core.Path.{_≡_, sym, ap, _∙_}
 use native.Mathlib.Numerals.{add-one}
 use native.Mathlib.Omega.{arith}
 use lib.IntN.{ℤ, pos}
@@ -14,14 +14,8 @@ use Rattle.lists.specs.Lists.{range}
 use Rattle.shift.specs.declared.Best.{Best}
 use Rattle.shift.specs.Shift.{sumAt, Winner, winner, searched, shifts}
 use Rattle.shift.specs.Inner.{sumUp, Bounded, Found}
+use Rattle.shift.specs.Searches.{searched-more}
 use Rattle.shift.proofs.Places.{minus-self, sum-moved}
-
--- one shift more
-searched-more : (f : ℤ → Float) (w : Winner) (zs : List ℤ) (z : ℤ)
-    → searched f w (zs ++ (z ∷ [])) ≡ cond (lt (searched f w zs .sum) (f z)) (winner z (f z)) (searched f w zs)
-unfolding searched
-searched-more f w [] z = refl
-searched-more f w (y ∷ zs) z = searched-more f _ zs z
 
 module _ (bins : List ℕ) (ratios : List Float) (bound : ℕ) where
   -- the winner of the j lowest shifts

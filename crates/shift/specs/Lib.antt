@@ -1,2 +1,5 @@
 pub mod Shift
 pub mod Inner
+pub mod MovedBins
+pub mod Searches
+pub mod Moved
