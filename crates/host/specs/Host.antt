@@ -23,6 +23,9 @@ use Rattle.guess.specs.declared.GuardSearch.{GuardSearch}
 use Rattle.guess.specs.declared.GuardSearch.the-variants as guard-search
 use Rattle.tmcc.specs.declared.SoftTmcc.{SoftTmcc}
 use Rattle.tmcc.specs.declared.SoftTmcc.the-variants as soft-tmcc
+use Rattle.pilot_phase.specs.declared.PilotPhase.{PilotPhase}
+use Rattle.pilot_phase.specs.declared.PilotPhase.the-variants as pilot-phase
+use Rattle.pilot_phase.specs.PilotPhase.{phaseCode, phaseAnswer, countsAnswer, leadOf}
 use Rattle.segment_kinds.specs.SegmentKinds.{kindsCode, kindsAnswer, scoresAnswer, kindsLeaves}
 use Rattle.shift.specs.declared.ShiftAnswer.{ShiftAnswer}
 use Rattle.shift.specs.declared.ShiftAnswer.the-variants as shift-answer
@@ -132,3 +135,28 @@ pub record GuessLent (a : GuardSearch) (f m g o : ℕ) (t x y : Float) (r f' m' 
 pub record SoftLent (a : SoftTmcc) (v : Float) (r : ℕ) (v' : Float) : Type 0 where
   pub code : r ≡ softCode a
   pub value : v' ≡ softOf a v
+
+-- ---- the pilot phase
+abbrev pub phaseFound : PilotPhase → ℕ
+phaseFound (pilot-phase.Phase p s) = 1
+phaseFound pilot-phase.NoScatteredPilots = 0
+
+abbrev pub phaseIn : PilotPhase → ℕ → ℕ
+phaseIn (pilot-phase.Phase p s) lent = p
+phaseIn pilot-phase.NoScatteredPilots lent = lent
+
+abbrev pub shareIn : PilotPhase → Float → Float
+shareIn (pilot-phase.Phase p s) lent = s
+shareIn pilot-phase.NoScatteredPilots lent = lent
+
+-- where the call is refused, everything lent stays as it was
+abbrev pub ifAccepted : {A : Type 0} → ℕ → A → A → A
+ifAccepted code answer lent = cond (eqb code 0) answer lent
+
+pub record PhaseLent (mode : ModeNumber) (kinds : List ℕ) (xs : List Float) (f p : ℕ) (s : Float) (cs : List ℕ) (l r f' p' : ℕ) (s' : Float) (cs' : List ℕ) (l' : ℕ) : Type 0 where
+  pub code : r ≡ phaseCode mode kinds (length xs)
+  pub found : f' ≡ ifAccepted (phaseCode mode kinds (length xs)) (phaseFound (phaseAnswer mode kinds xs)) f
+  pub phase : p' ≡ ifAccepted (phaseCode mode kinds (length xs)) (phaseIn (phaseAnswer mode kinds xs) p) p
+  pub share : s' ≡ ifAccepted (phaseCode mode kinds (length xs)) (shareIn (phaseAnswer mode kinds xs) s) s
+  pub counts : cs' ≡ ifAccepted (phaseCode mode kinds (length xs)) (countsAnswer mode kinds xs) cs
+  pub lead : l' ≡ ifAccepted (phaseCode mode kinds (length xs)) (leadOf (countsAnswer mode kinds xs)) l

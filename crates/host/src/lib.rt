@@ -10,7 +10,7 @@ ghost use Rattle.complex.specs.Complex.{pair, norm32, norm64};
 ghost use Rattle.prbs.specs.SignMap.{SignMap};
 ghost use Rattle.frame.specs.Operations.{RoleMap};
 ghost use Rattle.carrier_lists.specs.Operations.{DataList};
-ghost use Rattle.host.specs.Host.{CarrierBin, ContinualCount, ShiftLent, KindsLent, SamplesLent, GuessLent, SoftLent};
+ghost use Rattle.host.specs.Host.{CarrierBin, ContinualCount, ShiftLent, KindsLent, SamplesLent, GuessLent, SoftLent, PhaseLent};
 ghost use lib.ListN.{length};
 ghost use Rattle.guess.specs.Samples.{samplesAnswer};
 ghost use Rattle.guess.specs.Guess.{guessAnswer, scratchLeaves};
@@ -22,6 +22,7 @@ use guess::GuardSearch;
 use guess::SamplesNeeded;
 use ofdm::BandCarrier;
 use ofdm::BinLookup;
+use pilot_phase::PilotPhase;
 use shift::ShiftAnswer;
 use tmcc::SoftTmcc;
 
@@ -200,6 +201,43 @@ pub extern "C" fn sillurwy_detect_kinds(
     let found_scores = answer.scores;
     *kinds = found;
     *scores = found_scores;
+    0
+}
+
+// The pilot phase: whether there are scattered pilots, then the phase and its share; the four counts and
+// the lead. Without scattered pilots, what was lent for phase and share stays as it was.
+#[no_mangle]
+pub extern "C" fn sillurwy_detect_sp_phase(
+    mode: u8,
+    kinds: &[u8],
+    spectra: &[f32],
+    found: &mut u8,
+    phase: &mut u8,
+    share: &mut f32,
+    counts: &mut [u32; 4],
+    lead: &mut u32,
+) -> u8
+    ensures { λ r. ⌜ PhaseLent (modeFrom mode) (now (kinds .entry)) (now (spectra .entry)) (now (found .entry)) (now (phase .entry)) (now (share .entry)) (now (counts .entry)) (now (lead .entry)) r (now (found .exit)) (now (phase .exit)) (now (share .exit)) (now (counts .exit)) (now (lead .exit)) ⌝ }
+{
+    let answer = pilot_phase::detect_sp_phase(mode, kinds, spectra);
+    let code = answer.code;
+    if code != 0 {
+        return code;
+    }
+    let votes = answer.counts;
+    *counts = votes;
+    *lead = answer.lead;
+    let p = answer.phase;
+    match p {
+        PilotPhase::Phase(number, part) => {
+            *found = 1;
+            *phase = number;
+            *share = part;
+        }
+        PilotPhase::NoScatteredPilots => {
+            *found = 0;
+        }
+    }
     0
 }
 

@@ -1,19 +1,10 @@
 -- `host::sillurwy_detect_kinds` meets its contract: what was found is handed on where nothing refuses.
 -- Assumes nothing.
-use Prim.Native.Nat.{ℕ}
-use mathlib.Core.Bool.{cond}
-use mathlib.Core.Path.{_≡_, sym, ap, _∙_}
-use borrow.Author.Tests.{eq-eqb, ne-eqb}
-use lib.Dec.{eqb}
+use mathlib.Core.Path.{sym, _∙_}
+use Rattle.host.proofs.Accepted.{kept, taken}
 use borrow.Author.Needs.{needs}
 use Rattle.host.proofs.sillurwy_detect_kinds.Statement.{statement}
 use Rattle.host.proofs.sillurwy_detect_kinds.Tie as tie
-
-kept : {A : Type 0} (r code : ℕ) (x y : A) → r ≡ code → (r ≡ 0 → ⊥) → y ≡ cond (eqb code 0) x y
-kept r code x y e n = rw (sym e, ne-eqb r 0 n)
-
-taken : {A : Type 0} (r code : ℕ) (x y z : A) → r ≡ code → r ≡ 0 → z ≡ x → z ≡ cond (eqb code 0) x y
-taken r code x y z e n h = rw (sym e, eq-eqb r 0 n) h
 
 detect-kinds-requires : tie.Need-detect-kinds-requires
 detect-kinds-requires c κs = search needs

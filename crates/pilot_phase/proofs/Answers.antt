@@ -1,0 +1,132 @@
+-- What the tests on the way to a return make of the definition of `detect_sp_phase`.
+-- Assumes nothing.
+use Prim.Native.Nat.{ℕ, _*_, _-_, _/_, _%_, _≤_, _<_}
+use mathlib.Core.Bool.{Bool, true, false, cond}
+use mathlib.Core.List.{List, [], _∷_}
+use mathlib.Core.Path.{_≡_, refl, sym, ap, _∙_}
+use native.Mathlib.Omega.{arith}
+use borrow.Author.Tests.{eq-eqb, ne-eqb, le-leb, lt-leb, not-false, not-true}
+use lib.Dec.{T, eqb, le→leb}
+use lib.IntN.{pos}
+use lib.ListN.{length, getD}
+use lib.Ieee.{Float, binary32, div, ofInt, inFloat}
+use Rattle.lists.specs.Refusals.{unless}
+use Rattle.params.specs.declared.Mode.{Mode}
+use Rattle.params.specs.declared.ModeNumber.{ModeNumber}
+use Rattle.params.specs.declared.ModeNumber.the-variants.{Known, Unknown}
+use Rattle.params.specs.Params.{totalCarriers}
+use Rattle.spectra.specs.Spectra.{spectraIn, areSpectra}
+use Rattle.prbs.specs.Signs.{bandSigns}
+use Rattle.frame.specs.Operations.{areKinds, layoutCode}
+use Rattle.frame.specs.Written.{AcceptedLayout}
+use Rattle.frame.specs.Returns.{kinds-good}
+use Rattle.pilot_phase.specs.declared.PilotPhase.the-variants.{NoScatteredPilots, Phase}
+use Rattle.pilot_phase.specs.declared.PilotAnswer.{PilotAnswer}
+use Rattle.pilot_phase.specs.PilotPhase.{pilots, votes, countOf, countsOf, wonBy, nextTo, shareOf, leadOf, phaseCode, phaseAnswer, countsAnswer, PhaseDetected}
+use Rattle.pilot_phase.specs.Inner.{Votable, Won, somePilots, Nothing}
+use Rattle.pilot_phase.proofs.Counting.{counts-at, count-few, votes-length}
+use Rattle.pilot_phase.proofs.Most.{next-below}
+
+abbrev zeros : List ℕ
+zeros = 0 ∷ 0 ∷ 0 ∷ 0 ∷ []
+
+zeros-lead : leadOf zeros ≡ 0
+unfolding leadOf wonBy nextTo
+zeros-lead = refl
+
+-- ---- few spectra
+module _ (m : Mode) (xs : List Float) {k : ℕ} (sizes : k ≡ totalCarriers m) (f : length xs / (2 * k) ≤ 1024) where
+  pub votable : {signs : List ℕ} → length xs % (2 * k) ≡ 0 → signs ≡ bandSigns m → Votable m (length xs) signs
+  votable w s = record { whole = rw sizes at w; few = rw sizes at f; signed = s }
+
+  -- so few votes are a whole f32
+  pub whole-votes : (kinds : List ℕ) {counts : List ℕ} {won : ℕ} → counts ≡ countsOf (votes m kinds xs) → Won counts won → T (inFloat binary32 (pos (getD counts won 0)))
+  unfolding inFloat
+  whole-votes kinds {counts} {won} c v =
+      let n : getD counts won 0 ≡ countOf (votes m kinds xs) won = rw c (counts-at (votes m kinds xs) won (v .phase)) in
+      le→leb (getD counts won 0) 16777216 (omega (arith, n, count-few (votes m kinds xs) won, votes-length m kinds xs, rw sizes at f))
+
+-- and so few spectra
+pub whole-total : {n all : ℕ} → n ≤ 1024 → all ≡ cond (eqb n 0) 1 n → T (inFloat binary32 (pos all))
+unfolding inFloat
+whole-total {n} {all} f b = le→leb all 16777216 (omega (arith, b, by (eqb n 0)))
+  where
+    by : (t : Bool) → cond t 1 n ≤ 1024
+    by true = omega arith
+    by false = f
+
+-- no other phase has more votes
+pub lead-fits : {counts : List ℕ} {won next : ℕ} → Won counts won → next ≡ nextTo counts won → next ≤ getD counts won 0
+lead-fits {counts} v e = rw (e, v .won) (next-below counts)
+
+-- ---- nothing was counted
+nothing-detected : {number : ModeNumber} {kinds : List ℕ} {xs : List Float} {n : ℕ} {r : PilotAnswer} → n ≡ phaseCode number kinds (length xs)
+    → countsAnswer number kinds xs ≡ zeros → phaseAnswer number kinds xs ≡ NoScatteredPilots → Nothing n r → PhaseDetected number kinds xs r
+nothing-detected e c p a =
+    record { code = a .same ∙ e; phase = a .phase ∙ sym p; counts = a .counts ∙ sym c; lead = a .lead ∙ sym (ap leadOf c ∙ zeros-lead) }
+
+refused : (number : ModeNumber) (kinds : List ℕ) (xs : List Float) {n : ℕ} {r : PilotAnswer} → n ≡ phaseCode number kinds (length xs) → (n ≡ 0 → ⊥) → Nothing n r
+    → PhaseDetected number kinds xs r
+unfolding countsAnswer phaseAnswer
+refused Unknown kinds xs e h a = nothing-detected e refl refl a
+refused (Known m) kinds xs {n} e h a =
+    let no : eqb (phaseCode (Known m) kinds (length xs)) 0 ≡ false = ap (λ (z : ℕ). eqb z 0) (sym e) ∙ ne-eqb n 0 h in
+    nothing-detected e (rw no) (rw no) a
+
+-- a layout's refusal is the operation's
+layout-first : (number : ModeNumber) (kinds : List ℕ) (n : ℕ) → (layoutCode number kinds ≡ 0 → ⊥) → layoutCode number kinds ≡ phaseCode number kinds n
+unfolding layoutCode phaseCode
+layout-first Unknown kinds n h = refl
+layout-first (Known m) kinds n h = by (areKinds kinds) h
+  where
+    by : (b : Bool) → (_≡_ {A = ℕ} (unless b 2 0) 0 → ⊥) → unless b 2 0 ≡ unless b 2 (unless (areSpectra (totalCarriers m) n) 5 0)
+    by true h = absurd (h refl)
+    by false h = refl
+
+module _ {number : ModeNumber} {kinds : List ℕ} (xs : List Float) {code : ℕ} {m : Mode} {read : List ℕ} (a : AcceptedLayout number kinds code m read) where
+  pub bad-layout : {r : PilotAnswer} → (code ≡ 0 → ⊥) → Nothing code r → PhaseDetected number kinds xs r
+  bad-layout h n =
+      refused number kinds xs (a .refusal ∙ layout-first number kinds (length xs) (λ e. h (a .refusal ∙ e))) h n
+
+  -- an accepted layout; k carriers a spectrum
+  module _ (z : code ≡ 0) {k : ℕ} (sizes : k ≡ totalCarriers m) where
+    code-is : phaseCode number kinds (length xs) ≡ unless (areSpectra k (length xs)) 5 0
+    unfolding phaseCode
+    code-is = rw (a .known z, kinds-good number kinds code m read a z, sizes)
+
+    pub bad-length : {r : PilotAnswer} → (length xs % (2 * k) ≡ 0 → ⊥) → Nothing 5 r → PhaseDetected number kinds xs r
+    bad-length h n = refused number kinds xs (sym (code-is ∙ rw (ne-eqb (length xs % (2 * k)) 0 h))) (λ e. omega arith) n
+
+    module _ (w : length xs % (2 * k) ≡ 0) where
+      pub too-many : {r : PilotAnswer} → 1024 < length xs / (2 * k) → Nothing 5 r → PhaseDetected number kinds xs r
+      too-many h n = refused number kinds xs (sym (code-is ∙ rw (eq-eqb (length xs % (2 * k)) 0 w, lt-leb (length xs / (2 * k)) 1024 h))) (λ e. omega arith) n
+
+      module _ (f : length xs / (2 * k) ≤ 1024) where
+        zeroed : phaseCode number kinds (length xs) ≡ 0
+        zeroed = code-is ∙ rw (eq-eqb (length xs % (2 * k)) 0 w, le-leb (length xs / (2 * k)) 1024 f)
+
+        accepted : eqb (phaseCode (Known m) kinds (length xs)) 0 ≡ true
+        accepted = eq-eqb _ 0 (rw (a .known z) at zeroed)
+
+        pub no-pilots : {r : PilotAnswer} → somePilots m read ≡ false → Nothing 0 r → PhaseDetected number kinds xs r
+        unfolding countsAnswer phaseAnswer
+        no-pilots p n =
+            let none : eqb (length (pilots m kinds 0)) 0 ≡ true = not-false _ (rw (a .same z) at p) in
+            rw (a .known z) (nothing-detected (sym (rw (a .known z) at zeroed)) (rw (accepted, none)) (rw (accepted, none)) n)
+
+        pub answered : {counts : List ℕ} {won all next : ℕ} → counts ≡ countsOf (votes m read xs) → Won counts won → all ≡ cond (eqb (length xs / (2 * k)) 0) 1 (length xs / (2 * k))
+            → next ≡ nextTo counts won → somePilots m read ≡ true
+            → PhaseDetected number kinds xs
+            (record { code = 0; phase = Phase won (div binary32 (ofInt binary32 (pos (getD counts won 0))) (ofInt binary32 (pos all))); counts = counts; lead = getD counts won 0 - next })
+        unfolding countsAnswer phaseAnswer shareOf leadOf
+        answered {counts} {won} {all} c v b e p =
+            let some : eqb (length (pilots m kinds 0)) 0 ≡ false = not-true _ (rw (a .same z) at p) in
+            let d : counts ≡ countsOf (votes m kinds xs) = rw (a .same z) at c in
+            let t : all ≡ cond (eqb (spectraIn (totalCarriers m) (length xs)) 0) 1 (spectraIn (totalCarriers m) (length xs)) = rw sizes at b in
+            rw (a .known z)
+            (record {
+              code = sym (rw (a .known z) at zeroed);
+              phase = rw (accepted, some, ← d, t, v .won);
+              counts = rw (accepted, some) d;
+              lead = rw (accepted, some, ← d, e, v .won);
+            })

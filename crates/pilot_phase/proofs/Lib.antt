@@ -1,0 +1,10 @@
+-- Laws that belong to no one function.
+pub mod Walking
+pub mod Most
+pub mod Pilots
+pub mod Metric
+pub mod Chosen
+pub mod Alike
+pub mod Counting
+pub mod Buffered
+pub mod Answers

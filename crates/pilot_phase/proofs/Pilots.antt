@@ -1,0 +1,130 @@
+-- The scattered pilots by place: a coherent segment has every twelfth carrier from 3 times the phase on, a differential one has none.
+-- Assumes nothing.
+use Prim.Native.Nat.{ℕ, zero, suc, suc-le-suc, _+_, _*_, _-_, _/_, _%_, _<_}
+use mathlib.Core.Bool.{Bool, true, false, cond}
+use mathlib.Core.List.{List, [], _∷_, _++_, append-nil}
+use mathlib.Core.Path.{_≡_, refl, sym, ap, _∙_}
+use native.Mathlib.Nat.{zero-mul, le-of-suc-le-suc, not-suc-le-zero}
+use native.Mathlib.Omega.{arith}
+use borrow.Author.Tests.{eqb-true, eqb-false, eq-eqb, ne-eqb}
+use lib.Dec.{eqb}
+use lib.ListN.{length, getD, length-append}
+use Rattle.lists.specs.Lists.{upTo, joined, chosen}
+use Rattle.lists.specs.Tests.{memb}
+use Rattle.lists.specs.Truth.{same, same-true, always5-at}
+use Rattle.lists.specs.Select.{length-upTo, chosen-append, chosen-joined}
+use Rattle.params.specs.declared.Mode.{Mode}
+use Rattle.params.specs.declared.Mode.the-variants.{M1, M2, M3}
+use Rattle.params.specs.declared.SegmentKind.{SegmentKind}
+use Rattle.params.specs.declared.SegmentKind.the-variants.{Coherent, Differential}
+use Rattle.params.specs.Params.{carriersPerSegment, kindFrom}
+use Rattle.params.specs.Laws.{sized}
+use Rattle.tables.specs.Places.{tmccOf, ac1Of, ac2Of, isSp, isCp}
+use Rattle.ofdm.specs.Band.{order, placeOf}
+use Rattle.ofdm.specs.Laws.{place-below, segment-of-place, place-of-segment, segment-below}
+use Rattle.frame.specs.declared.CarrierRole.the-variants.{EdgeCp}
+use Rattle.frame.specs.Roles.{OfdmSegment, roleByte, placeRole, segmentRoles, bandRoles, wideSegment, wide}
+use Rattle.frame.specs.OneRole.{first, segment-length}
+use Rattle.pilot_phase.specs.PilotPhase.{pilots}
+use Rattle.pilot_phase.specs.Inner.{twelfths, somePilots}
+
+abbrev isPilot : ℕ → Bool
+isPilot role = eqb role 1
+
+-- ---- one segment
+-- a place's byte is 1 where the pilots' rule says so
+sp-place : (mode : Mode) (s : OfdmSegment) (phase p : ℕ) → isPilot (roleByte (placeRole mode s phase p)) ≡ isSp (s .kind) phase p
+unfolding placeRole
+sp-place mode s phase p =
+    same-true _ _
+    (always5-at (λ sp cp t a b. same (isPilot (roleByte (first sp cp t a b))) sp) refl
+    (isSp (s .kind) phase p) (isCp (s .kind) p) (memb p (tmccOf mode (s .kind) (s .row)))
+    (memb p (ac1Of mode (s .kind) (s .row))) (memb p (ac2Of mode (s .kind) (s .row))))
+
+last-chosen : (f : ℕ → ℕ) (k n : ℕ) → chosen isPilot k (upTo f (suc n)) ≡ chosen isPilot k (upTo f n) ++ cond (isPilot (f n)) ((k + n) ∷ []) []
+last-chosen f k n = chosen-append isPilot k (upTo f n) (f n ∷ []) ∙ rw (length-upTo f n)
+
+none-chosen : (f : ℕ → ℕ) (k : ℕ) → ((p : ℕ) → isPilot (f p) ≡ false) → (n : ℕ) → chosen isPilot k (upTo f n) ≡ []
+none-chosen f k h zero = refl
+none-chosen f k h (suc n) = last-chosen f k n ∙ rw (none-chosen f k h n, h n)
+
+-- where a byte is 1 at each place that leaves a by 12
+spaced : (f : ℕ → ℕ) (k a : ℕ) → a < 12 → ((p : ℕ) → isPilot (f p) ≡ eqb (p % 12) a) → (n : ℕ) → chosen isPilot k (upTo f n) ≡ twelfths (k + a) ((n + 11 - a) / 12)
+spaced f k a h e zero = let z : (0 + 11 - a) / 12 ≡ 0 = omega arith in rw z
+spaced f k a h e (suc n) = last-chosen f k n ∙ rw (spaced f k a h e n, e n) (by (eqb (n % 12) a) refl)
+  where
+    by : (b : Bool) → eqb (n % 12) a ≡ b → twelfths (k + a) ((n + 11 - a) / 12) ++ cond b ((k + n) ∷ []) [] ≡ twelfths (k + a) ((suc n + 11 - a) / 12)
+    by true g =
+        let r = eqb-true (n % 12) a g in
+        let more : (suc n + 11 - a) / 12 ≡ suc ((n + 11 - a) / 12) = omega arith in
+        let here : k + a + 12 * ((n + 11 - a) / 12) ≡ k + n = omega arith in
+        rw (more, here)
+    by false g =
+        let r = eqb-false (n % 12) a g in
+        let same : (suc n + 11 - a) / 12 ≡ (n + 11 - a) / 12 = omega arith in
+        rw (append-nil (twelfths (k + a) ((n + 11 - a) / 12)), same)
+
+-- a segment is whole twelves
+pub twelves : (mode : Mode) → carriersPerSegment mode % 12 ≡ 0
+twelves M1 = refl
+twelves M2 = refl
+twelves M3 = refl
+
+module _ (mode : Mode) (kinds : List ℕ) (phase : ℕ) where
+  -- the pilots of a segment
+  unfoldable pub segmentPilots : ℕ → List ℕ
+  segmentPilots seg = chosen isPilot (placeOf seg * carriersPerSegment mode) (segmentRoles mode phase (wideSegment kinds seg))
+
+  -- those of the band, segment by segment from the lowest place upward
+  pub by-segment : pilots mode kinds phase ≡ joined segmentPilots order
+  unfolding pilots bandRoles segmentPilots
+  by-segment =
+      chosen-append isPilot 0 (joined (segmentRoles mode phase) (wide kinds)) (roleByte EdgeCp ∷ [])
+      ∙ (append-nil (chosen isPilot 0 (joined (segmentRoles mode phase) (wide kinds)))
+      ∙ (ap (λ (n : ℕ). chosen isPilot n (joined (segmentRoles mode phase) (wide kinds))) (sym (zero-mul (carriersPerSegment mode)))
+      ∙ chosen-joined isPilot (λ seg. segmentRoles mode phase (wideSegment kinds seg)) (carriersPerSegment mode) placeOf order 0
+      (λ i l. segment-length mode phase (wideSegment kinds (getD order i 0))) (λ i l. place-of-segment i l ∙ omega arith)))
+
+  module _ (seg : ℕ) where
+    abbrev rule : ℕ → Bool
+    rule p = isPilot (roleByte (placeRole mode (wideSegment kinds seg) phase p))
+
+    ruled : (kind : SegmentKind) → kindFrom (getD kinds seg 0) ≡ kind → (p : ℕ) → rule p ≡ isSp kind phase p
+    ruled kind e p = sp-place mode (wideSegment kinds seg) phase p ∙ ap (λ (z : SegmentKind). isSp z phase p) e
+
+    pub coherent-pilots : phase < 4 → kindFrom (getD kinds seg 0) ≡ Coherent
+        → segmentPilots seg ≡ twelfths (placeOf seg * carriersPerSegment mode + 3 * phase) (carriersPerSegment mode / 12)
+    unfolding segmentPilots segmentRoles
+    coherent-pilots h e =
+        let whole : (carriersPerSegment mode + 11 - 3 * phase) / 12 ≡ carriersPerSegment mode / 12 = omega (arith, twelves mode) in
+        rw whole at
+        (spaced (λ p. roleByte (placeRole mode (wideSegment kinds seg) phase p)) (placeOf seg * carriersPerSegment mode) (3 * phase) (omega arith) (ruled Coherent e) (carriersPerSegment mode))
+
+    pub differential-pilots : kindFrom (getD kinds seg 0) ≡ Differential → segmentPilots seg ≡ []
+    unfolding segmentPilots segmentRoles
+    differential-pilots e =
+        none-chosen (λ p. roleByte (placeRole mode (wideSegment kinds seg) phase p)) (placeOf seg * carriersPerSegment mode) (ruled Differential e) (carriersPerSegment mode)
+
+-- ---- whether there are any
+joined-some : (f : ℕ → List ℕ) (xs : List ℕ) (i : ℕ) → i < length xs → 0 < length (f (getD xs i 0)) → 0 < length (joined f xs)
+joined-some f [] i h l = absurd (not-suc-le-zero h)
+joined-some f (x ∷ xs) zero h l = omega (arith, length-append (f x) (joined f xs))
+joined-some f (x ∷ xs) (suc i) h l = omega (arith, length-append (f x) (joined f xs), joined-some f xs i (le-of-suc-le-suc h) l)
+
+joined-none : (f : ℕ → List ℕ) (xs : List ℕ) → ((i : ℕ) → i < length xs → f (getD xs i 0) ≡ []) → joined f xs ≡ []
+joined-none f [] h = refl
+joined-none f (x ∷ xs) h = rw (h 0 (omega arith), joined-none f xs (λ i l. h (suc i) (suc-le-suc l)))
+
+module _ (mode : Mode) (kinds : List ℕ) where
+  pub some-pilots : (seg : ℕ) → seg < 13 → getD kinds seg 0 ≡ 0 → true ≡ somePilots mode kinds
+  some-pilots seg h e =
+      let part = coherent-pilots mode kinds 0 seg (omega arith) (rw (eq-eqb (getD kinds seg 0) 0 e)) in
+      let size = ap length part ∙ length-upTo _ (carriersPerSegment mode / 12) in
+      let here : 0 < length (segmentPilots mode kinds 0 (getD order (placeOf seg) 0)) = rw (segment-of-place seg h) (omega (arith, size, sized mode .carriers-low)) in
+      let some = joined-some (segmentPilots mode kinds 0) order (placeOf seg) (place-below seg h) here in
+      rw (by-segment mode kinds 0, ne-eqb (length (joined (segmentPilots mode kinds 0) order)) 0 (λ z. omega arith))
+
+  pub no-pilots : ((seg : ℕ) → seg < 13 → getD kinds seg 0 ≡ 0 → ⊥) → false ≡ somePilots mode kinds
+  no-pilots h =
+      let none = joined-none (segmentPilots mode kinds 0) order (λ i l. differential-pilots mode kinds 0 (getD order i 0) (rw (ne-eqb (getD kinds (getD order i 0) 0) 0 (h (getD order i 0) (segment-below i l))))) in
+      rw (by-segment mode kinds 0, none)

@@ -1,0 +1,93 @@
+-- The words of the contracts inside this crate.
+-- Definitions only.
+use Prim.Native.Nat.{ℕ, _+_, _*_, _%_, _≤_, _<_}
+use mathlib.Core.Bool.{Bool, true, false, cond, not}
+use mathlib.Core.List.{List, [], _∷_, _++_}
+use mathlib.Core.Path.{_≡_}
+use lib.Dec.{eqb}
+use lib.ListN.{length}
+use lib.Ieee.{Float, binary32, add, mul}
+use Rattle.lists.specs.Lists.{upTo}
+use Rattle.params.specs.declared.Mode.{Mode}
+use Rattle.params.specs.Params.{totalCarriers}
+use Rattle.complex.specs.Complex.{Pair, of32, product, conjugate, plus, norm32}
+use Rattle.spectra.specs.Spectra.{pairAt, spectraIn}
+use Rattle.prbs.specs.Signs.{bandSigns}
+use Rattle.pilot_phase.specs.declared.PilotPhase.the-variants.{NoScatteredPilots}
+use Rattle.pilot_phase.specs.declared.PilotAnswer.{PilotAnswer}
+use Rattle.pilot_phase.specs.declared.Run.{Run}
+use Rattle.pilot_phase.specs.PilotPhase.{pilots, twelveApart, unsigned, productSum, energySum, wonBy}
+
+-- ---- one spectrum
+-- count carriers from first on, 12 apart
+abbrev pub twelfths : ℕ → ℕ → List ℕ
+twelfths first count = upTo (λ i. first + 12 * i) count
+
+-- the run s with the next pilot not 12 further on
+pub record Parted (s r : Run) : Type 0 where
+  pub joined : r .joined ≡ false
+  pub sum : r .sum ≡ s .sum
+  pub energy : r .energy ≡ s .energy
+
+-- the run s with a pilot v more
+pub record Joined (s : Run) (v : Pair) (r : Run) : Type 0 where
+  pub joined : r .joined ≡ true
+  pub value : of32 (r .value) ≡ v
+  pub norm : r .norm ≡ norm32 v
+  pub sum : of32 (r .sum) ≡ cond (s .joined) (plus binary32 (of32 (s .sum)) (product binary32 v (conjugate (of32 (s .value))))) (of32 (s .sum))
+  pub energy : r .energy ≡ cond (s .joined) (add binary32 (s .energy) (mul binary32 (s .norm) (norm32 v))) (s .energy)
+
+-- a run keeps the last of the pilots ks, 12 below the next
+pub record Kept (mode : Mode) (y : ℕ → Pair) (ks : List ℕ) (next : ℕ) (r : Run) : Type 0 where
+  pub front : List ℕ
+  pub last : ℕ
+  pub ends : ks ≡ front ++ (last ∷ [])
+  pub twelve : next ≡ last + 12
+  pub value : of32 (r .value) ≡ unsigned mode y last
+  pub norm : r .norm ≡ norm32 (unsigned mode y last)
+
+-- a run over the pilots ks of the spectrum y, where the next is `next`, or above it if the run is not joined
+pub record Walked (mode : Mode) (y : ℕ → Pair) (ks : List ℕ) (next : ℕ) (r : Run) : Type 0 where
+  pub sum : of32 (r .sum) ≡ productSum mode y (twelveApart ks)
+  pub energy : r .energy ≡ energySum mode y (twelveApart ks)
+  pub kept : r .joined ≡ true → Kept mode y ks next r
+  pub apart : r .joined ≡ false → (n : ℕ) → next ≤ n → twelveApart (ks ++ (n ∷ [])) ≡ twelveApart ks
+
+-- count carriers from first on, 12 apart, lie within a spectrum of n floats with m signs: the last is below m
+pub record Walkable (first count n m : ℕ) : Type 0 where
+  pub inside : first + 12 * count < m + 12
+  pub floats : n ≡ 2 * m
+  pub small : m ≤ 5617
+
+-- the run s led on over such carriers, whatever was walked before
+pub record Walks (s : Run) (y : List Float) (signs : List ℕ) (first count : ℕ) (r : Run) : Type 0 where
+  pub walked : (mode : Mode) → signs ≡ bandSigns mode → (ks : List ℕ) → Walked mode (pairAt y) ks first s → Walked mode (pairAt y) (ks ++ twelfths first count) (first + 12 * count) r
+
+-- n floats are one spectrum of the band, with the band's signs
+pub record Spectrum (mode : Mode) (n : ℕ) (signs : List ℕ) : Type 0 where
+  pub floats : n ≡ 2 * totalCarriers mode
+  pub signed : signs ≡ bandSigns mode
+
+-- ---- the votes
+-- n floats are whole spectra of the band, at most 1,024, with the band's signs
+pub record Votable (mode : Mode) (n : ℕ) (signs : List ℕ) : Type 0 where
+  pub whole : n % (2 * totalCarriers mode) ≡ 0
+  pub few : spectraIn (totalCarriers mode) n ≤ 1024
+  pub signed : signs ≡ bandSigns mode
+
+-- the phase with the most votes
+pub record Won (counts : List ℕ) (r : ℕ) : Type 0 where
+  pub won : r ≡ wonBy counts
+  pub phase : r < 4
+
+-- ---- the answers
+-- whether there are scattered pilots
+abbrev pub somePilots : Mode → List ℕ → Bool
+somePilots mode kinds = not (eqb (length (pilots mode kinds 0)) 0)
+
+-- nothing was counted
+pub record Nothing (code : ℕ) (r : PilotAnswer) : Type 0 where
+  pub same : r .code ≡ code
+  pub phase : r .phase ≡ NoScatteredPilots
+  pub counts : r .counts ≡ 0 ∷ 0 ∷ 0 ∷ 0 ∷ []
+  pub lead : r .lead ≡ 0

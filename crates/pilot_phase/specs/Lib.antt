@@ -1,0 +1,4 @@
+pub mod PilotPhase
+pub mod Inner
+pub mod Pilots
+pub mod Changed

@@ -1,0 +1,286 @@
+// The scattered-pilot phase (acquire.rs of isdb-rs, `detect_sp_phase`). For every spectrum and phase,
+// products of pilots 12 carriers apart, with their known signs taken off, add up coherently for the
+// right phase alone. Every spectrum votes.
+ghost use mathlib.Core.Path.{_≡_};
+ghost use Prim.Native.Nat.{_<_};
+ghost use lib.ListN.{length};
+ghost use Rattle.params.specs.Params.{modeFrom};
+ghost use Rattle.complex.specs.Complex.{of32};
+ghost use Rattle.spectra.specs.Spectra.{pairAt};
+ghost use Rattle.pilot_phase.specs.PilotPhase.{phaseMetric, choiceOf, votes, countsOf, nextTo, PhaseDetected};
+ghost use Rattle.pilot_phase.specs.Inner.{Parted, Joined, Walkable, Walks, Spectrum, Votable, Won, somePilots, Nothing};
+use complex::C32;
+use frame::FrameLayout;
+use ofdm::BandPlace;
+use params::Mode;
+use params::SegmentKind;
+
+const MINUS_ONE: f32 = -1.0;
+
+pub enum PilotPhase {
+    NoScatteredPilots,
+    // The phase of symbol 0, and the share of the votes for it.
+    Phase(u8, f32),
+}
+
+// The refusal's number or 0; the phase; the four counts, and the largest less the largest of the others.
+pub struct PilotAnswer {
+    pub code: u8,
+    pub phase: PilotPhase,
+    pub counts: [u32; 4],
+    pub lead: u32,
+}
+
+// Sums over pilots 12 carriers apart, and the last pilot with its norm, if the next is 12 further on.
+pub struct Run {
+    pub joined: bool,
+    pub value: C32,
+    pub norm: f32,
+    pub sum: C32,
+    pub energy: f32,
+}
+
+impl Run {
+    // The next pilot is not 12 further on.
+    pub fn apart(self) -> Run
+        ensures { λ r. ⌜ Parted self r ⌝ }
+    {
+        let v = self.value;
+        let s = self.sum;
+        Run {
+            joined: false,
+            value: v,
+            norm: self.norm,
+            sum: s,
+            energy: self.energy,
+        }
+    }
+
+    // A pilot more.
+    pub fn join(self, v: C32) -> Run
+        ensures { λ r. ⌜ Joined self (of32 v) r ⌝ }
+    {
+        let norm = v.norm();
+        let s = self.sum;
+        if !self.joined {
+            return Run {
+                joined: true,
+                value: v,
+                norm: norm,
+                sum: s,
+                energy: self.energy,
+            };
+        }
+        let w = self.value;
+        let sum = s.add(v.mul(w.conj()));
+        let energy = self.energy + self.norm * norm;
+        Run {
+            joined: true,
+            value: v,
+            norm: norm,
+            sum: sum,
+            energy: energy,
+        }
+    }
+}
+
+// The pilots of a coherent segment, of which `first` is the lowest: `count` of them, 12 apart.
+fn walk_segment(start: Run, y: &[f32], signs: &[u8], first: usize, count: usize) -> Run
+    requires { ⌜ Walkable first count (length (now y)) (length (now signs)) ⌝ }
+    ensures { λ r. ⌜ Walks start (now (y .entry)) (now (signs .entry)) first count r ⌝ }
+{
+    let mut run = start;
+    let mut k = first;
+    let mut i: usize = 0;
+    while i < count {
+        let x = spectra::pair_at(y, k);
+        let pilot = prbs::pilot_value(signs[k]);
+        run = run.join(x.scale(pilot.re));
+        k += 12;
+        i += 1;
+    }
+    run
+}
+
+// How coherent the pilots of a phase are in the spectrum y.
+fn phase_metric(layout: FrameLayout, y: &[f32], signs: &[u8], phase: u8) -> f32
+    requires { ⌜ (phase < 4) × Spectrum (layout .mode) (length (now y)) (now signs) ⌝ }
+    ensures { λ r. ⌜ r ≡ phaseMetric (layout .mode) (layout .kinds) (pairAt (now (y .entry))) phase ⌝ }
+{
+    let mode = layout.mode;
+    let c = mode.carriers_per_segment();
+    let mut run = Run {
+        joined: false,
+        value: C32::new(0.0, 0.0),
+        norm: 0.0,
+        sum: C32::new(0.0, 0.0),
+        energy: 0.0,
+    };
+    let mut place: usize = 0;
+    while place < 13 {
+        let seg = ofdm::segment_at_position(BandPlace(place));
+        match layout.kind(seg) {
+            SegmentKind::Coherent => {
+                run = walk_segment(run, y, signs, place * c + 3 * phase as usize, c / 12);
+            }
+            SegmentKind::Differential => {
+                run = run.apart();
+            }
+        }
+        place += 1;
+    }
+    if run.energy > 0.0 {
+        let sum = run.sum;
+        sum.re / run.energy
+    } else {
+        0.0
+    }
+}
+
+// The first phase with the greatest metric in the spectrum y.
+fn choice(layout: FrameLayout, y: &[f32], signs: &[u8]) -> u8
+    requires { ⌜ Spectrum (layout .mode) (length (now y)) (now signs) ⌝ }
+    ensures { λ r. ⌜ r ≡ choiceOf (layout .mode) (layout .kinds) (pairAt (now (y .entry))) ⌝ }
+{
+    let mut best: u8 = 0;
+    let mut metric = MINUS_ONE;
+    let mut phase: u8 = 0;
+    while phase < 4 {
+        let m = phase_metric(layout, y, signs, phase);
+        if m > metric {
+            best = phase;
+            metric = m;
+        }
+        phase += 1;
+    }
+    best
+}
+
+// The votes of all spectra, counted.
+fn count_votes(layout: FrameLayout, spectra: &[f32], signs: &[u8]) -> [u32; 4]
+    requires { ⌜ Votable (layout .mode) (length (now spectra)) (now signs) ⌝ }
+    ensures { λ r. ⌜ r ≡ countsOf (votes (layout .mode) (layout .kinds) (now (spectra .entry))) ⌝ }
+{
+    let mode = layout.mode;
+    let w = 2 * mode.total_carriers();
+    let mut counts = [0u32; 4];
+    let mut from: usize = 0;
+    let mut j: usize = 0;
+    while from < spectra.len() {
+        let to = from + w;
+        let phase = choice(layout, &spectra[from..to], signs) as usize;
+        let vote = (phase + 4 - j % 4) % 4;
+        counts[vote] = counts[vote] + 1;
+        from = to;
+        j += 1;
+    }
+    counts
+}
+
+// The phase with the most votes, the larger on a tie.
+fn won_by(counts: [u32; 4]) -> usize
+    ensures { λ r. ⌜ Won counts r ⌝ }
+{
+    let mut best: usize = 0;
+    let mut p: usize = 1;
+    while p < 4 {
+        if counts[best] <= counts[p] {
+            best = p;
+        }
+        p += 1;
+    }
+    best
+}
+
+// The largest of the counts of the phases other than p.
+fn next_to(counts: [u32; 4], p: usize) -> u32
+    ensures { λ r. ⌜ r ≡ nextTo counts p ⌝ }
+{
+    let mut most: u32 = 0;
+    let mut q: usize = 0;
+    while q < 4 {
+        if q != p {
+            if most < counts[q] {
+                most = counts[q];
+            }
+        }
+        q += 1;
+    }
+    most
+}
+
+// Room for the signs of the largest band. The `ensures` gives the length alone.
+fn sign_buffer() -> [u8; 5617]
+    ensures { λ r. ⌜ 5617 ≡ length r ⌝ }
+{
+    [0; 5617]
+}
+
+// An answer in which nothing was counted.
+fn nothing(code: u8) -> PilotAnswer
+    ensures { λ r. ⌜ Nothing code r ⌝ }
+{
+    PilotAnswer {
+        code: code,
+        phase: PilotPhase::NoScatteredPilots,
+        counts: [0; 4],
+        lead: 0,
+    }
+}
+
+// Whether a segment is coherent, and so has scattered pilots.
+fn has_pilots(layout: FrameLayout) -> bool
+    ensures { λ r. ⌜ r ≡ somePilots (layout .mode) (layout .kinds) ⌝ }
+{
+    let kinds = layout.kinds;
+    let mut seg: usize = 0;
+    while seg < 13 {
+        if kinds[seg] == 0 {
+            return true;
+        }
+        seg += 1;
+    }
+    false
+}
+
+// The phase of symbol 0, with its share of the votes, the counts and the lead. The answer of an
+// accepted call in which no segment is coherent is that there are no scattered pilots.
+//
+// Refused by 1 for a bad mode, 2 unless there are thirteen kinds of 0 or 1, 5 unless whole spectra of
+// k_total carriers, 0 to 1,024.
+pub fn detect_sp_phase(mode: u8, kinds: &[u8], spectra: &[f32]) -> PilotAnswer
+    ensures { λ r. ⌜ PhaseDetected (modeFrom mode) (now (kinds .entry)) (now (spectra .entry)) r ⌝ }
+{
+    let new = FrameLayout::new(mode, kinds);
+    let code = new.code;
+    if code != 0 {
+        return nothing(code);
+    }
+    let layout = new.layout;
+    let m = layout.mode;
+    let k = m.total_carriers();
+    let w = 2 * k;
+    if spectra.len() % w != 0 {
+        return nothing(5);
+    }
+    let total = spectra.len() / w;
+    if total > 1024 {
+        return nothing(5);
+    }
+    if !has_pilots(layout) {
+        return nothing(0);
+    }
+    let mut buffer = sign_buffer();
+    prbs::band_w(m, &mut buffer[..k]);
+    let counts = count_votes(layout, spectra, &buffer[..k]);
+    let won = won_by(counts);
+    let votes = counts[won];
+    let all = if total == 0 { 1 } else { total };
+    let share = votes as f32 / all as f32;
+    PilotAnswer {
+        code: 0,
+        phase: PilotPhase::Phase(won as u8, share),
+        counts: counts,
+        lead: votes - next_to(counts, won),
+    }
+}
