@@ -13,7 +13,7 @@ use lib.Dec.{leb}
 use lib.ListN.{length, getD, take, drop, set, length-append, length-take, length-drop}
 use lib.Seq.{sets, sets-eq, length-sets, length-take-le}
 use Rattle.lists.specs.Lists.{range, joined, chosen}
-use Rattle.lists.specs.Fill.{joined-append, sets-append, sets-all}
+use Rattle.lists.specs.Fill.{joined-range, sets-append, sets-all}
 use Rattle.params.specs.declared.Mode.{Mode}
 use Rattle.params.specs.Params.{carriersPerSegment, totalCarriers}
 use Rattle.params.specs.Laws.{sized}
@@ -32,9 +32,6 @@ chosen-fewer t k (x ∷ xs) = by (t x) (chosen-fewer t (suc k) xs)
     by false h = omega arith
 
 -- data carriers: one segment more
-joined-range : (f : ℕ → List ℕ) (n : ℕ) → joined f (range (suc n)) ≡ joined f (range n) ++ f n
-joined-range f n = joined-append f (range n) (n ∷ []) ∙ ap (λ (z : List ℕ). joined f (range n) ++ z) (append-nil (f n))
-
 joined-longer : (f : ℕ → List ℕ) (m n : ℕ) → m ≤ n → length (joined f (range m)) ≤ length (joined f (range n))
 joined-longer f m zero h = let e : m ≡ 0 = omega arith in rw e (omega arith)
 joined-longer f m (suc n) h = last (decLt m (suc n)) (λ l. joined-longer f m n l)

@@ -3,3 +3,5 @@ pub mod Guess
 pub mod Inner
 pub mod Windows
 pub mod Changed
+pub mod Facts
+pub mod Checked

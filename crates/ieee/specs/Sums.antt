@@ -2,8 +2,8 @@
 -- whole sum is roomy; a sum that starts at +0.0 never becomes -0.0; and a sum of values without a minus sign has none.
 -- Assumes nothing.
 use mathlib.Core.Bool.{false}
-use mathlib.Core.List.{List, [], _∷_, map}
-use mathlib.Core.Path.{_≡_}
+use mathlib.Core.List.{List, [], _∷_, map, _++_}
+use mathlib.Core.Path.{_≡_, refl}
 use Prim.Native.Nat.{ℕ, suc, _+_, _≤_}
 use native.Mathlib.Omega.{arith}
 use lib.Dec.{T}
@@ -19,6 +19,12 @@ use Rattle.ieee.specs.Gain.{roomy-fewer, plus-scaled, one-scaled, more-s
 unfoldable pub total : Format → Float → List Float → Float
 total f s [] = s
 total f s (x ∷ xs) = total f (add f s x) xs
+
+-- a sum goes on where it stopped
+pub total-append : (f : Format) (s : Float) (xs ys : List Float) → total f s (xs ++ ys) ≡ total f (total f s xs) ys
+unfolding total
+total-append f s [] ys = refl
+total-append f s (x ∷ xs) ys = total-append f (add f s x) xs ys
 
 -- the sums on the way, the first of them s
 unfoldable pub prefixes : Format → Float → List Float → List Float

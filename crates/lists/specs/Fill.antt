@@ -40,6 +40,10 @@ pub joined-append : {A : Type 0} (f : A → List ℕ) (xs ys : List A) → joine
 joined-append f [] ys = refl
 joined-append f (x ∷ xs) ys = rw (joined-append f xs ys, append-assoc)
 
+-- one more of the first n
+pub joined-range : (f : ℕ → List ℕ) (n : ℕ) → joined f (range (suc n)) ≡ joined f (range n) ++ f n
+joined-range f n = rw (joined-append f (range n) (n ∷ []), append-nil)
+
 pub joined-map : {A B : Type 0} (f : B → List ℕ) (g : A → B) (xs : List A) → joined f (map g xs) ≡ joined (λ x. f (g x)) xs
 joined-map f g [] = refl
 joined-map f g (x ∷ xs) = rw (joined-map f g xs)

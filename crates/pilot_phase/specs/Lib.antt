@@ -2,3 +2,4 @@ pub mod PilotPhase
 pub mod Inner
 pub mod Pilots
 pub mod Changed
+pub mod Facts

@@ -2,3 +2,4 @@ pub mod Ratio
 pub mod Inner
 pub mod Unchanged
 pub mod NoMinus
+pub mod Facts

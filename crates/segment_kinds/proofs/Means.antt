@@ -10,16 +10,11 @@ use lib.IntN.{pos}
 use lib.ListN.{length, getD, length-append}
 use lib.Ieee.{Float, Format, nan, binary32, div, ofInt, inFloat}
 use Rattle.ieee.specs.Constants.{minusZero}
-use Rattle.ieee.specs.Sums.{total}
+use Rattle.ieee.specs.Sums.{total, total-append}
 use Rattle.lists.specs.Lists.{select}
 use Rattle.lists.specs.Select.{select-append}
 use Rattle.segment_kinds.specs.declared.Mean.{Mean}
 use Rattle.segment_kinds.specs.Inner.{isTelling, kept, ratiosAt, Inside, Addable, Added, meanOf, Scorable}
-
-total-append : (f : Format) (s : Float) (xs ys : List Float) → total f s (xs ++ ys) ≡ total f (total f s xs) ys
-unfolding total
-total-append f s [] ys = refl
-total-append f s (x ∷ xs) ys = total-append f _ xs ys
 
 added-both : (ratios : List Float) (xs ys : List ℕ) (s r t : Mean) → Added s xs ratios r → Added r ys ratios t → Added s (xs ++ ys) ratios t
 added-both ratios xs ys s r t g h =

@@ -8,7 +8,7 @@ use native.Mathlib.Omega.{arith}
 use lib.ListN.{length, getD, take}
 use lib.Seq.{take-suc}
 use Rattle.lists.specs.Lists.{joined, range}
-use Rattle.lists.specs.Fill.{joined-append}
+use Rattle.lists.specs.Fill.{joined-range}
 use Rattle.params.specs.declared.Mode.{Mode}
 use Rattle.params.specs.declared.SegmentKind.{SegmentKind}
 use Rattle.params.specs.Params.{carriersPerSegment, kindFrom}
@@ -21,8 +21,8 @@ use Rattle.segment_list.specs.Question.{countsLine}
 use Rattle.segment_list.specs.Question.{Answered, front, lineAt, line-parts}
 use Rattle.text.specs.Put.{Put, then, put-as}
 
-pub joined-range : (f : ℕ → List ℕ) (n : ℕ) → joined f (range (n + 1)) ≡ joined f (range n) ++ f n
-joined-range f n = rw (add-one, joined-append f (range n) (n ∷ []), append-nil)
+pub joined-next : (f : ℕ → List ℕ) (n : ℕ) → joined f (range (n + 1)) ≡ joined f (range n) ++ f n
+joined-next f n = rw add-one (joined-range f n)
 
 -- a segment's first carrier has four digits at most
 pub carrier-few : (mode : Mode) (place c : ℕ) → place < 13 → c ≡ carriersPerSegment mode → place * c < 10000

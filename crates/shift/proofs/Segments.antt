@@ -9,7 +9,7 @@ use lib.Dec.{lit≤}
 use lib.ListN.{length, set, length-append, length-map}
 use lib.Seq.{length-sets}
 use Rattle.lists.specs.Lists.{range, joined}
-use Rattle.lists.specs.Fill.{joined-append, sets-append}
+use Rattle.lists.specs.Fill.{joined-range, sets-append}
 use Rattle.params.specs.declared.Mode.{Mode}
 use Rattle.params.specs.declared.Mode.the-variants.{M1, M2, M3}
 use Rattle.params.specs.declared.SegmentKind.the-variants.{Coherent}
@@ -27,9 +27,6 @@ put-more xs ys old mid out at i r p q =
       next = rw length-append (omega (arith, p .next, q .next));
       stored = q .stored ∙ (rw (p .stored, p .next) (sets-append xs ys old at));
     }
-
-one-more : (f : ℕ → List ℕ) (n : ℕ) → joined f (range (suc n)) ≡ joined f (range n) ++ f n
-one-more f n = rw (joined-append f (range n) (n ∷ []), append-nil)
 
 -- the pattern is the segments' bins, and the edge's
 map-joined : (b : ℕ → ℕ) (g : ℕ → ℕ → ℕ) (f : ℕ → List ℕ) (xs : List ℕ)
@@ -73,7 +70,7 @@ module _ (mode : Mode) (old : List ℕ) where
           passed = omega arith;
           low = omega (arith, w .low, p .next, row-few mode seg h, simp length-map at (p .next));
           size = ap length (p .stored) ∙ (length-sets out at (segmentBins mode seg) ∙ w .size);
-          front = rw (add-one seg, one-more (segmentBins mode) seg) (put-more _ _ _ _ _ _ _ _ (w .front) p);
+          front = rw (add-one seg, joined-range (segmentBins mode) seg) (put-more _ _ _ _ _ _ _ _ (w .front) p);
         }
 
     pub fill-done : (k edge : ℕ) → 13 ≤ seg → k ≡ totalCarriers mode → edge ≡ binOf mode (k - 1) → Put (pattern mode) old 0 (at + 1) (set out at edge)

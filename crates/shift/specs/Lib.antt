@@ -3,3 +3,4 @@ pub mod Inner
 pub mod MovedBins
 pub mod Searches
 pub mod Moved
+pub mod Facts

@@ -9,9 +9,9 @@ use native.Mathlib.Omega.{arith}
 use lib.Ieee.{Float, binary32}
 use lib.ListN.{length, getD, take, length-take}
 use Rattle.ieee.specs.Constants.{minusZero}
-use Rattle.ieee.specs.Sums.{total}
+use Rattle.ieee.specs.Sums.{total, total-append}
 use Rattle.lists.specs.Lists.{range, joined}
-use Rattle.lists.specs.Fill.{joined-append}
+use Rattle.lists.specs.Fill.{joined-range}
 use Rattle.params.specs.declared.Mode.{Mode}
 use Rattle.params.specs.declared.SegmentKind.{SegmentKind}
 use Rattle.params.specs.Params.{carriersPerSegment, totalCarriers, kindFrom}
@@ -25,14 +25,6 @@ use Rattle.tmcc.specs.Tmcc.{passes, placeTmcc, tmccCarriers, softTerm, s
 use Rattle.tmcc.specs.Inner.{Addable, addedTo}
 
 -- ---- one segment more
-total-append : (s : Float) (xs ys : List Float) → total binary32 s (xs ++ ys) ≡ total binary32 (total binary32 s xs) ys
-unfolding total
-total-append s [] ys = refl
-total-append s (x ∷ xs) ys = total-append _ xs ys
-
-one-more : (f : ℕ → List ℕ) (n : ℕ) → joined f (range (suc n)) ≡ joined f (range n) ++ f n
-one-more f n = rw (joined-append f (range n) (n ∷ []), append-nil)
-
 -- ---- a row's front, lent
 module _ (r : Positions) (ps : List ℕ) (l : Listed r ps) where
   pub front-length : r .count ≡ length (take (r .count) (r .places))
@@ -80,7 +72,7 @@ module _ (mode : Mode) (kinds : List ℕ) (filter : ℕ) (xs : List Float) where
 
   module _ (sum : Float) (place : ℕ) (s : Summed sum place) (h : place < 13) where
     more : (sum' : Float) → sum' ≡ total binary32 sum (terms (carriersAt place)) → Summed sum' (place + 1)
-    more sum' e = record { passed = omega arith; summed = e ∙ rw (add-one place, one-more carriersAt place, map-append, total-append, s .summed) }
+    more sum' e = record { passed = omega arith; summed = e ∙ rw (add-one place, joined-range carriersAt place, map-append, total-append, s .summed) }
 
     -- the segment at the place, and whether its kind passes
     module _ (seg : ℕ) (kind : SegmentKind) (b : Bool) (at : seg ≡ segmentAt place) (k : kind ≡ kindFrom (getD kinds seg 0)) (told : b ≡ passes filter kind) where

@@ -7,7 +7,7 @@ use lib.ListN.{length}
 use Rattle.lists.specs.Lists.{joined, range}
 use Rattle.segment_list.specs.Question.{lineAt}
 use Rattle.text.specs.Put.{Put, then, put-none, put-as}
-use Rattle.segment_list.proofs.Lines.{joined-range}
+use Rattle.segment_list.proofs.Lines.{joined-next}
 use borrow.Author.Needs.{needs}
 use Rattle.segment_list.proofs.put_segments.Statement.{statement}
 use Rattle.segment_list.proofs.put_segments.Tie as tie
@@ -31,7 +31,7 @@ loop-less : tie.Need-loop-less Inv-loop μ-loop
 loop-less c = omega arith
 
 loop-again : tie.Need-loop-again Inv-loop μ-loop
-loop-again c = (omega arith, omega arith, omega (arith, c .before .before .put-segment .ensures .1), put-as (joined-range (lineAt (c .before .before .before .before .before .before .before .before .args .mode) (c .before .before .before .before .before .before .before .before .args .s .now)) (c .before .before .before .before .before .loop .place)) (then (c .before .before .before .before .before .loop .inv .3) (c .before .before .put-segment .ensures .0)))
+loop-again c = (omega arith, omega arith, omega (arith, c .before .before .put-segment .ensures .1), put-as (joined-next (lineAt (c .before .before .before .before .before .before .before .before .args .mode) (c .before .before .before .before .before .before .before .before .args .s .now)) (c .before .before .before .before .before .loop .place)) (then (c .before .before .before .before .before .loop .inv .3) (c .before .before .put-segment .ensures .0)))
 
 same-length : tie.Need-same-length Inv-loop μ-loop
 same-length c = c .before .loop .inv .1
