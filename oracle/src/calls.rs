@@ -1,6 +1,6 @@
 //! Calls of the port's operations: those at the boundaries of every refusal, and random ones.
 
-use crate::answers::{self, Answer, data_count};
+use crate::answers::{self, data_count};
 use crate::check;
 use crate::codes::{MODES, kind_bytes, mode_of};
 use crate::isdb::params::{Mode, SEGMENTS};
@@ -85,7 +85,7 @@ pub struct Outcome {
 
 impl Outcome {
     /// The outcome where the oracle gave `answer`.
-    pub fn new<T>(answer: &Answer<T>, difference: Option<String>) -> Self {
+    pub fn new<T>(answer: &Result<T, u8>, difference: Option<String>) -> Self {
         Self {
             refused: answer.is_err(),
             difference,
@@ -135,7 +135,7 @@ impl Call {
 }
 
 /// Kinds as letters, any other byte as its number.
-fn readable(kinds: &[u8]) -> String {
+pub fn readable(kinds: &[u8]) -> String {
     let letter = |&byte: &u8| match byte {
         0 => "C".to_string(),
         1 => "D".to_string(),
@@ -180,12 +180,12 @@ impl fmt::Display for Call {
 }
 
 /// Every good mode, and bad ones next to them and far off.
-const MODE_NUMBERS: [u8; 6] = [0, 1, 2, 3, 4, 255];
+pub const MODE_NUMBERS: [u8; 6] = [0, 1, 2, 3, 4, 255];
 /// Every good phase, and bad ones.
 const PHASE_NUMBERS: [u8; 6] = [0, 1, 2, 3, 4, 255];
 
 /// Good kinds, kinds of the wrong length, and a bad byte in each position.
-fn boundary_kinds() -> Vec<Vec<u8>> {
+pub fn boundary_kinds() -> Vec<Vec<u8>> {
     let mixed = kind_bytes(0b1_0110_0101_1010).to_vec();
     let mut all = vec![vec![0; SEGMENTS], vec![1; SEGMENTS], mixed.clone()];
     all.extend([0, SEGMENTS - 1, SEGMENTS + 1].map(|len| vec![0; len]));
@@ -313,7 +313,7 @@ fn random_phase(rng: &mut Rng) -> u8 {
 }
 
 /// Kinds, mostly good; else with a byte of any value or of another length.
-fn random_kinds(rng: &mut Rng) -> Vec<u8> {
+pub fn random_kinds(rng: &mut Rng) -> Vec<u8> {
     let mut kinds = kind_bytes(rng.choice()).to_vec();
     match rng.below(16) {
         0 => kinds[rng.below(SEGMENTS)] = rng.byte(),

@@ -7,7 +7,7 @@ use crate::lent::Lent;
 use std::hint::black_box;
 
 /// A difference in the code.
-fn code<T>(port: u8, answer: &Answer<T>) -> Option<String> {
+pub fn code<T>(port: u8, answer: &Result<T, u8>) -> Option<String> {
     let oracle = answer.as_ref().err().copied().unwrap_or(0);
     (port != oracle).then(|| format!("code: oracle {oracle}, port {port}"))
 }

@@ -1,7 +1,7 @@
 //! The numbers that the port's operations take and give, and what they stand for in the Rust.
 
 use crate::isdb::frame::{AcKind, CarrierRole, SegmentKind};
-use crate::isdb::params::{Mode, SEGMENTS};
+use crate::isdb::params::{GuardInterval, Mode, SEGMENTS};
 
 /// Refusal: a mode other than 1, 2, 3.
 pub const BAD_MODE: u8 = 1;
@@ -11,13 +11,27 @@ pub const BAD_KINDS: u8 = 2;
 pub const BAD_PHASE: u8 = 3;
 /// Refusal: a carrier at or above k_total.
 pub const BAD_CARRIER: u8 = 4;
-/// Refusal: an output of the wrong length.
+/// Refusal: a filter of the soft TMCC value other than 0, 1, 2.
+pub const BAD_FILTER: u8 = 3;
+/// Refusal: floats that are not whole spectra or samples, or too many of them.
+pub const BAD_FLOATS: u8 = 5;
+/// Refusal: no spectra.
+pub const NO_SPECTRA: u8 = 6;
+/// Refusal: an output of the wrong length, or too short a scratch.
 pub const BAD_LENGTH: u8 = 7;
+/// Refusal: a bound above n/2.
+pub const BAD_BOUND: u8 = 8;
+/// Refusal: a guard other than 4, 8, 16, 32.
+pub const BAD_GUARD: u8 = 9;
+/// Refusal: more than 64 symbols.
+pub const BAD_SYMBOLS: u8 = 10;
 /// Refusal: a line that has not the form of a question.
 pub const BAD_LINE: u8 = 11;
 
 /// The modes, lowest first.
 pub const MODES: [Mode; 3] = [Mode::M1, Mode::M2, Mode::M3];
+/// The guards' denominators.
+pub const GUARDS: [u8; 4] = [4, 8, 16, 32];
 /// Number of scattered-pilot phases.
 pub const PHASES: u8 = 4;
 /// Number of ways to choose 13 kinds.
@@ -29,6 +43,18 @@ pub type Kinds = [SegmentKind; SEGMENTS];
 /// The mode of a number, or the refusal.
 pub fn mode_of(number: u8) -> Result<Mode, u8> {
     Mode::from_number(number).ok_or(BAD_MODE)
+}
+
+/// The modes of a list of numbers, or the refusal.
+pub fn modes_of(numbers: &[u8]) -> Result<Vec<Mode>, u8> {
+    numbers.iter().map(|&number| mode_of(number)).collect()
+}
+
+/// The guards of a list of denominators, or the refusal.
+pub fn guards_of(numbers: &[u8]) -> Result<Vec<GuardInterval>, u8> {
+    let guard =
+        |&number: &u8| GuardInterval::from_denominator(usize::from(number)).ok_or(BAD_GUARD);
+    numbers.iter().map(guard).collect()
 }
 
 /// The phase of a number, or the refusal.

@@ -4,7 +4,7 @@
 //! square root of `f64` is the nearest one.
 
 use std::iter::Sum;
-use std::ops::{Add, Div, Mul, Neg, Sub};
+use std::ops::{Add, AddAssign, Div, Mul, Neg, Sub};
 
 /// The pair (re, im).
 #[derive(Debug, Clone, Copy, PartialEq, Default)]
@@ -61,6 +61,12 @@ impl<T: Add<Output = T>> Add for Complex<T> {
     type Output = Self;
     fn add(self, other: Self) -> Self {
         Self::new(self.re + other.re, self.im + other.im)
+    }
+}
+
+impl<T: Copy + Add<Output = T>> AddAssign for Complex<T> {
+    fn add_assign(&mut self, other: Self) {
+        *self = *self + other;
     }
 }
 

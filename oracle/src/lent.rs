@@ -2,6 +2,7 @@
 //! entry that was written, or was left, can be told afterwards.
 
 use crate::answers::Answer;
+use crate::floats::Value;
 use std::fmt::Display;
 use std::hint::black_box;
 
@@ -12,6 +13,25 @@ const MARGIN: usize = 16;
 pub trait Pattern: Copy + PartialEq + Display {
     /// The value that stands at place `i` before a call.
     fn pattern(i: usize, salt: u64) -> Self;
+
+    /// What stands around values that are lent to be read. It shows in the answer if it is read: of
+    /// floats it is a NaN.
+    fn around() -> Self;
+
+    /// The same value. All NaNs are alike; no pattern is a NaN.
+    fn alike(self, other: Self) -> bool {
+        self == other
+    }
+
+    /// The same bits.
+    fn same(self, other: Self) -> bool {
+        self == other
+    }
+
+    /// The value in a message, with its bits if it is a float.
+    fn shown(self) -> String {
+        self.to_string()
+    }
 }
 
 /// The parts of a pattern that vary.
@@ -24,6 +44,10 @@ impl Pattern for u8 {
     fn pattern(i: usize, salt: u64) -> u8 {
         0x80 | mix(i, salt) as u8
     }
+
+    fn around() -> u8 {
+        u8::MAX
+    }
 }
 
 impl Pattern for u32 {
@@ -31,12 +55,112 @@ impl Pattern for u32 {
     fn pattern(i: usize, salt: u64) -> u32 {
         0xa500_0000 | mix(i, salt) as u32
     }
+
+    fn around() -> u32 {
+        u32::MAX
+    }
 }
 
 impl Pattern for usize {
     /// Above every bin and count.
     fn pattern(i: usize, salt: u64) -> usize {
         (1 << 63) | mix(i, salt) as usize
+    }
+
+    fn around() -> usize {
+        usize::MAX
+    }
+}
+
+impl Pattern for i64 {
+    /// Far from every shift.
+    fn pattern(i: usize, salt: u64) -> i64 {
+        (1 << 62) | mix(i, salt) as i64
+    }
+
+    fn around() -> i64 {
+        i64::MAX
+    }
+}
+
+impl Pattern for f32 {
+    /// A number about as large as 2^101, which a case meets by accident at most.
+    fn pattern(i: usize, salt: u64) -> f32 {
+        f32::from_bits(0x7200_0000 | (mix(i, salt) as u32 & 0xff_ffff))
+    }
+
+    fn around() -> f32 {
+        f32::NAN
+    }
+
+    fn alike(self, other: f32) -> bool {
+        self.compared_bits() == other.compared_bits()
+    }
+
+    fn same(self, other: f32) -> bool {
+        self.to_bits() == other.to_bits()
+    }
+
+    fn shown(self) -> String {
+        format!("{self:e} (bits {:#010x})", self.to_bits())
+    }
+}
+
+impl Pattern for f64 {
+    /// A number about as large as 2^800, which a case meets by accident at most.
+    fn pattern(i: usize, salt: u64) -> f64 {
+        f64::from_bits(0x7200_0000_0000_0000 | (mix(i, salt) & 0xff_ffff_ffff))
+    }
+
+    fn around() -> f64 {
+        f64::NAN
+    }
+
+    fn alike(self, other: f64) -> bool {
+        self.compared_bits() == other.compared_bits()
+    }
+
+    fn same(self, other: f64) -> bool {
+        self.to_bits() == other.to_bits()
+    }
+
+    fn shown(self) -> String {
+        format!("{self:e} (bits {:#018x})", self.to_bits())
+    }
+}
+
+/// Values that are lent to be read, with a margin on both sides.
+#[derive(Debug)]
+pub struct Shown<'a, T> {
+    all: Vec<T>,
+    values: &'a [T],
+}
+
+impl<'a, T: Pattern> Shown<'a, T> {
+    /// A copy of the values to lend.
+    pub fn new(values: &'a [T]) -> Self {
+        let margin = [T::around(); MARGIN];
+        let all = [&margin, values, &margin].concat();
+        Self { all, values }
+    }
+
+    /// The part that is lent.
+    pub fn slice(&self) -> &[T] {
+        &self.all[MARGIN..self.all.len() - MARGIN]
+    }
+
+    /// The first value, or what lies around them, that was written.
+    pub fn written(&self, name: &str) -> Option<String> {
+        let held = black_box(&self.all);
+        let wanted = |i: usize| match i.checked_sub(MARGIN).and_then(|at| self.values.get(at)) {
+            Some(&value) => value,
+            None => T::around(),
+        };
+        let at = (0..held.len()).find(|&i| !held[i].same(wanted(i)))?;
+        let (place, now) = (at as i64 - MARGIN as i64, held[at].shown());
+        Some(format!(
+            "{name}[{place}], lent to be read, was written: {now}"
+        ))
     }
 }
 
@@ -54,6 +178,21 @@ impl<T: Pattern> Lent<T> {
         Self { all, salt }
     }
 
+    /// A single entry that holds the pattern.
+    pub fn one(salt: u64) -> Self {
+        Self::new(1, salt)
+    }
+
+    /// The entry of a buffer of one.
+    pub fn entry(&mut self) -> &mut T {
+        &mut self.all[MARGIN]
+    }
+
+    /// The part that is lent, of a length that is known.
+    pub fn array<const N: usize>(&mut self) -> &mut [T; N] {
+        self.slice().try_into().expect("a buffer of N entries")
+    }
+
     /// The part that is lent.
     pub fn slice(&mut self) -> &mut [T] {
         let end = self.all.len() - MARGIN;
@@ -68,13 +207,15 @@ impl<T: Pattern> Lent<T> {
             Some(&value) => value,
             None => T::pattern(i, self.salt),
         };
-        let at = (0..held.len()).find(|&i| held[i] != wanted(i))?;
-        let differing = (at..held.len()).filter(|&i| held[i] != wanted(i)).count();
+        let at = (0..held.len()).find(|&i| !held[i].alike(wanted(i)))?;
+        let differing = (at..held.len())
+            .filter(|&i| !held[i].alike(wanted(i)))
+            .count();
         Some(format!(
             "{}: oracle {}, port {} ({differing} differ)",
             self.place(name, at, written.len()),
-            wanted(at),
-            held[at],
+            wanted(at).shown(),
+            held[at].shown(),
         ))
     }
 
@@ -115,6 +256,27 @@ mod tests {
         lent.slice()[2] = 5;
         let found = lent.difference("out", &Ok(vec![5])).unwrap();
         assert!(found.starts_with("out[2], to be left"), "{found}");
+    }
+
+    #[test]
+    fn floats_are_compared_by_their_bits() {
+        let mut lent = Lent::<f32>::new(2, 9);
+        lent.slice()
+            .copy_from_slice(&[0.0, f32::from_bits(0x7fc0_1234)]);
+        assert_eq!(lent.difference("out", &Ok(vec![0.0, f32::NAN])), None);
+        assert!(lent.difference("out", &Ok(vec![-0.0, f32::NAN])).is_some());
+        assert!(lent.difference("out", &Ok(vec![0.0])).is_some());
+    }
+
+    #[test]
+    fn what_is_lent_to_be_read_is_watched() {
+        let values = [1.0, f32::from_bits(0x7fc0_1234)];
+        let mut shown = Shown::new(&values);
+        assert_eq!(shown.slice().len(), 2);
+        assert_eq!(shown.written("in"), None);
+        shown.all[MARGIN + 1] = f32::NAN;
+        let found = shown.written("in").unwrap();
+        assert!(found.starts_with("in[1], lent to be read"), "{found}");
     }
 
     #[test]

@@ -4,11 +4,24 @@
 //! refusals where the Rust would panic. `ffi` calls the port. `check` makes one call to the port and
 //! compares all it gives and leaves behind. `floats` compares the functions of floats. The programs
 //! are in src/bin.
+//!
+//! For acquisition, `acquire_answers` and `acquire_port` stand in the places of `answers` and `ffi`,
+//! `acquire_calls` makes a call and compares, `acquire_cases` says which calls, and `captures` and
+//! `samples` make what is in them. `claims` holds the port against itself, on captures that `changes`
+//! changed.
 
+pub mod acquire_answers;
+pub mod acquire_calls;
+pub mod acquire_cases;
+pub mod acquire_compare;
+pub mod acquire_port;
 pub mod answers;
 pub mod args;
 pub mod calls;
+pub mod captures;
+pub mod changes;
 pub mod check;
+pub mod claims;
 pub mod codes;
 pub mod complex;
 pub mod ffi;
@@ -17,6 +30,7 @@ pub mod floats;
 pub mod isdb;
 pub mod lent;
 pub mod rng;
+pub mod samples;
 pub mod segment_list;
 pub mod segments_program;
 pub mod tally;

@@ -62,6 +62,14 @@ impl<K: Ord + Display> Tally<K> {
         }
     }
 
+    /// Puts a simpler input in the place of the smallest failing one.
+    pub fn simplify(&mut self, simpler: impl FnOnce(K, String) -> (K, String)) {
+        self.smallest = self
+            .smallest
+            .take()
+            .map(|(input, found)| simpler(input, found));
+    }
+
     /// The row of the table.
     pub fn row(self, name: impl Into<String>) -> Row {
         Row {

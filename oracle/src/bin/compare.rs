@@ -1,10 +1,14 @@
 //! Holds the proved port against the Rust: every layout, every bin, every refusal at its boundary,
-//! random calls, the functions of floats, and the program `segments`.
+//! random calls, the functions of floats, acquisition, and the program `segments`. Of acquisition it
+//! also holds the port against itself, on changed captures.
 
+use oracle::acquire_compare::{self, Plan};
+use oracle::acquire_port;
 use oracle::answers;
 use oracle::args::Args;
 use oracle::calls::{self, Call, Operation, Outcome};
 use oracle::check;
+use oracle::claims::{self, Provisos};
 use oracle::codes::{KINDS, MODES, PHASES, kind_bytes, kinds_of_choice};
 use oracle::floats;
 use oracle::isdb::frame::FrameLayout;
@@ -28,6 +32,10 @@ compare: hold the proved port against the Rust
   --cases N   random calls of each operation (default 4096)
   --floats N  random inputs of each function of floats (default 100,000,000; with --quick
               15,000,000)
+  --captures N
+              random calls of each operation of acquisition, and changed captures of each
+              (default 20,000; with --quick 400)
+  --only PART nothing but one part: layouts, floats, acquisition or segments
   --help      this text
 
 Environment: SILLURWY_SEGMENTS is the path of the program segments.
@@ -38,7 +46,12 @@ struct Options {
     seed: u64,
     cases: u64,
     floats: u64,
+    captures: usize,
+    only: Option<String>,
 }
+
+/// The parts that `--only` names.
+const PARTS: [&str; 4] = ["layouts", "floats", "acquisition", "segments"];
 
 fn options() -> Options {
     let mut args = Args::new(USAGE);
@@ -47,20 +60,46 @@ fn options() -> Options {
         seed: 1,
         cases: 4096,
         floats: 0,
+        captures: 0,
+        only: None,
     };
-    let mut floats = None;
+    let (mut floats, mut captures) = (None, None);
     while let Some(word) = args.next_word() {
         match word.as_str() {
             "--quick" => options.quick = true,
             "--seed" => options.seed = args.number("--seed"),
             "--cases" => options.cases = args.number("--cases"),
             "--floats" => floats = Some(args.number("--floats")),
+            "--captures" => captures = Some(args.number("--captures") as usize),
+            "--only" => options.only = Some(part(&mut args)),
             _ => args.fail(format!("unknown word {word}")),
         }
     }
     let usual = if options.quick { QUICK_FLOATS } else { FLOATS };
     options.floats = floats.unwrap_or(usual);
+    let usual = if options.quick {
+        QUICK_CAPTURES
+    } else {
+        CAPTURES
+    };
+    options.captures = captures.unwrap_or(usual);
     options
+}
+
+/// The part that `--only` names.
+fn part(args: &mut Args) -> String {
+    let part = args.value("--only");
+    if !PARTS.contains(&part.as_str()) {
+        args.fail(format!("--only needs one of {PARTS:?}, not {part}"));
+    }
+    part
+}
+
+impl Options {
+    /// True if the part is to be compared.
+    fn wants(&self, part: &str) -> bool {
+        self.only.as_deref().is_none_or(|only| only == part)
+    }
 }
 
 /// Streams of random numbers, one for each use.
@@ -70,6 +109,8 @@ mod stream {
     pub const LINES: u64 = 200;
     pub const INPUTS: u64 = 300;
     pub const FLOATS: u64 = 400;
+    pub const CAPTURES: u64 = 500;
+    pub const CHANGES: u64 = 600;
 }
 
 /// Kinds in a sample, for each mode.
@@ -80,6 +121,10 @@ const DAMAGED_LINES: u64 = 4096;
 const FLOATS: u64 = 100_000_000;
 /// The same with `--quick`.
 const QUICK_FLOATS: u64 = 15_000_000;
+/// Random calls of each operation of acquisition, unless `--captures` is given.
+const CAPTURES: usize = 20_000;
+/// The same with `--quick`.
+const QUICK_CAPTURES: usize = 400;
 /// Kinds in a job of one thread.
 const JOB: usize = 32;
 
@@ -262,6 +307,24 @@ fn compare_floats(options: &Options) -> Vec<Row> {
     rows
 }
 
+fn compare_acquisition(options: &Options) -> (Vec<Row>, Provisos) {
+    let start = Instant::now();
+    let plan = Plan {
+        seed: options.seed,
+        stream: stream::CAPTURES,
+        cases: options.captures,
+    };
+    let mut rows = acquire_compare::compare(&acquire_port::LINKED, plan);
+    let changes = Plan {
+        stream: stream::CHANGES,
+        ..plan
+    };
+    let (claimed, provisos) = claims::compare(&acquire_port::LINKED, changes);
+    rows.extend(claimed);
+    eprintln!("acquisition took {:.1} s", start.elapsed().as_secs_f64());
+    (rows, provisos)
+}
+
 /// Inputs that each take a run of the program: how they begin and end is what matters.
 fn whole_inputs(options: &Options) -> Vec<Vec<u8>> {
     let good: &[u8] = b"2,3,CDCDCDCDCDCDC";
@@ -327,23 +390,46 @@ fn compare_segments(options: &Options) -> io::Result<Vec<Row>> {
     ])
 }
 
-fn main() -> ExitCode {
-    let options = options();
+/// Everything about layouts.
+fn compare_all_layouts(options: &Options) -> Vec<Row> {
     let mut rows = vec![
         compare_list(&every_bin()).row("bin lookup, every one"),
         compare_list(&every_sign_map()).row("sign map, every one"),
     ];
-    rows.extend(compare_layouts(&options));
+    rows.extend(compare_layouts(options));
     rows.extend(compare_boundaries());
-    rows.extend(compare_random(&options));
-    rows.extend(compare_floats(&options));
-    let segments = compare_segments(&options);
-    let failure = segments.map(|more| rows.extend(more)).err();
+    rows.extend(compare_random(options));
+    rows
+}
+
+fn main() -> ExitCode {
+    let options = options();
+    let mut rows = Vec::new();
+    if options.wants("layouts") {
+        rows.extend(compare_all_layouts(&options));
+    }
+    if options.wants("floats") {
+        rows.extend(compare_floats(&options));
+    }
+    let (mut provisos, mut failure) = (None, None);
+    if options.wants("acquisition") {
+        let (more, counted) = compare_acquisition(&options);
+        rows.extend(more);
+        provisos = Some(counted);
+    }
+    if options.wants("segments") {
+        let segments = compare_segments(&options);
+        failure = segments.map(|more| rows.extend(more)).err();
+    }
     let differences = print_table(&rows);
+    if let Some(Provisos { asked, met }) = provisos {
+        println!("\n{met} of {asked} moved captures met the proviso of the shift");
+    }
     println!(
         "\nseed {}, {} random calls of each operation, {} random inputs of each function of floats, \
+         {} random calls and changed captures of each operation of acquisition, \
          {differences} differences",
-        options.seed, options.cases, options.floats
+        options.seed, options.cases, options.floats, options.captures
     );
     if let Some(error) = failure {
         let program = segments_program::path();

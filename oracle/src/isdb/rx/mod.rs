@@ -1,6 +1,8 @@
 // Carried over from isdb-rs 754ed06c49 (Apache-2.0, see NOTICE).
 // From crates/isdbt-ofdm/src/rx/mod.rs. Changed: `continual_list` is public. Left out: everything
-// else of that file.
+// else of that file but the line of `acquire`.
+
+pub mod acquire;
 
 use crate::isdb::frame::FrameLayout;
 
