@@ -1,6 +1,6 @@
-# Shared by the scripts compare, bench and store: finds the repository and builds what they need.
+# Shared by the scripts: finds the repository and builds what they need.
 
-oracle=$(cd "$(dirname "$0")" && pwd)
+oracle=$(cd "$(dirname "${BASH_SOURCE[0]}")" && pwd)
 root=$(cd "$oracle/.." && pwd)
 library=$root/target/staticlib/libhost.a
 segments=$root/target/bin/segments

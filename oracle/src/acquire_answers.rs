@@ -74,7 +74,7 @@ pub fn pairs(floats: &[f32]) -> Vec<C32> {
 }
 
 /// Spectra of `len` pairs each, as the Rust takes them.
-fn spectra_of(floats: &[f32], len: usize) -> Vec<Vec<C32>> {
+pub fn spectra_of(floats: &[f32], len: usize) -> Vec<Vec<C32>> {
     floats.chunks_exact(2 * len).map(pairs).collect()
 }
 

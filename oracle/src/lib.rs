@@ -9,6 +9,8 @@
 //! `acquire_calls` makes a call and compares, `acquire_cases` says which calls, and `captures` and
 //! `samples` make what is in them. `claims` holds the port against itself, on captures that `changes`
 //! changed.
+//!
+//! `timing` takes the time of a call; `bench_acquire` times acquisition with it.
 
 pub mod acquire_answers;
 pub mod acquire_calls;
@@ -17,6 +19,7 @@ pub mod acquire_compare;
 pub mod acquire_port;
 pub mod answers;
 pub mod args;
+pub mod bench_acquire;
 pub mod calls;
 pub mod captures;
 pub mod changes;
@@ -33,6 +36,8 @@ pub mod rng;
 pub mod samples;
 pub mod segment_list;
 pub mod segments_program;
+pub mod stored_acquire;
 pub mod tally;
+pub mod timing;
 
 pub use complex::C32;

@@ -1,8 +1,10 @@
 //! Times the proved port beside the Rust: same driver, same inputs, the median of several rounds. The
-//! first table has the operations, the second the functions of floats.
+//! first table has the operations of the layout, the second the functions of floats, the third the
+//! operations of acquisition.
 
 use oracle::answers;
 use oracle::args::Args;
+use oracle::bench_acquire;
 use oracle::codes::{KINDS, Kinds, MODES, PHASES, kind_bytes, kinds_of_choice};
 use oracle::complex::{C32, C64};
 use oracle::ffi;
@@ -10,42 +12,68 @@ use oracle::isdb::frame::FrameLayout;
 use oracle::isdb::params::{Mode, SEGMENTS};
 use oracle::isdb::rx;
 use oracle::rng::Rng;
+use oracle::timing::{Effort, time};
 use std::fmt::Debug;
 use std::fs;
 use std::hint::black_box;
-use std::time::{Duration, Instant, SystemTime, UNIX_EPOCH};
+use std::time::{Duration, SystemTime, UNIX_EPOCH};
 
 const USAGE: &str = "\
 bench: time the proved port beside the Rust
 
-  --quick   fewer and shorter rounds
-  --help    this text";
+  --quick       fewer and shorter rounds
+  --only TABLE  nothing but one table: layout, floats or acquisition
+  --help        this text";
 
-/// How long a measurement takes.
-struct Effort {
-    rounds: usize,
-    round: Duration,
-}
+/// The tables that `--only` names.
+const TABLES: [&str; 3] = ["layout", "floats", "acquisition"];
 
 const FULL: Effort = Effort {
     rounds: 11,
     round: Duration::from_millis(50),
+    calls: INPUTS,
 };
 const QUICK: Effort = Effort {
     rounds: 5,
     round: Duration::from_millis(10),
+    calls: INPUTS,
 };
 
-fn effort() -> Effort {
+struct Options {
+    effort: Effort,
+    only: Option<String>,
+}
+
+fn options() -> Options {
     let mut args = Args::new(USAGE);
-    let mut effort = FULL;
+    let mut options = Options {
+        effort: FULL,
+        only: None,
+    };
     while let Some(word) = args.next_word() {
         match word.as_str() {
-            "--quick" => effort = QUICK,
+            "--quick" => options.effort = QUICK,
+            "--only" => options.only = Some(table(&mut args)),
             _ => args.fail(format!("unknown word {word}")),
         }
     }
-    effort
+    options
+}
+
+/// The table that `--only` names.
+fn table(args: &mut Args) -> String {
+    let table = args.value("--only");
+    if !TABLES.contains(&table.as_str()) {
+        args.fail(format!("--only needs one of {TABLES:?}, not {table}"));
+    }
+    table
+}
+
+impl Options {
+    /// True if the table is to be printed.
+    fn wants(&self, table: &str) -> bool {
+        self.only.as_deref().is_none_or(|only| only == table)
+    }
 }
 
 /// Number of inputs that the calls rotate over.
@@ -80,31 +108,6 @@ fn inputs() -> Vec<Input> {
         Input::new((i / 4) as u8 % PHASES, choice)
     };
     (0..INPUTS).map(input).collect()
-}
-
-/// Nanoseconds per call: the median of the rounds. Each call is given its number.
-fn time(effort: &Effort, mut call: impl FnMut(usize)) -> f64 {
-    let calls = calls_in(effort.round, &mut call);
-    let mut rounds: Vec<f64> = (0..effort.rounds)
-        .map(|_| run(calls, &mut call).as_nanos() as f64 / calls as f64)
-        .collect();
-    rounds.sort_by(f64::total_cmp);
-    rounds[rounds.len() / 2]
-}
-
-/// How many calls fill a round. Finding it out also warms up.
-fn calls_in(round: Duration, call: &mut impl FnMut(usize)) -> usize {
-    let mut calls = INPUTS;
-    while run(calls, call) < round {
-        calls *= 2;
-    }
-    calls
-}
-
-fn run(calls: usize, call: &mut impl FnMut(usize)) -> Duration {
-    let start = Instant::now();
-    (0..calls).for_each(call);
-    start.elapsed()
 }
 
 /// A row of the table.
@@ -507,26 +510,38 @@ fn days_in_month(year: u64, month: u64) -> u64 {
     }
 }
 
-fn main() {
-    let effort = effort();
+fn print_layout(effort: &Effort) {
     let inputs = inputs();
-    println!("{}, {}\n", processor(), date());
     println!(
         "| operation; the Rust's part | mode | port, ns a call | Rust, ns a call | port / Rust |"
     );
     println!("|---|---:|---:|---:|---:|");
     for mode in MODES.into_iter().rev() {
-        for row in rows(mode, &inputs, &effort) {
+        for row in rows(mode, &inputs, effort) {
             row.print();
         }
     }
-    println!();
+}
+
+fn print_floats(effort: &Effort) {
     println!(
         "| function | port, ns a call | Rust's sqrt, ns a call | Rust's hypot, ns a call | port / sqrt |"
     );
     println!("|---|---:|---:|---:|---:|");
-    for row in float_rows(&effort) {
+    for row in float_rows(effort) {
         row.print();
+    }
+}
+
+fn main() {
+    let options = options();
+    let tables: [fn(&Effort); 3] = [print_layout, print_floats, bench_acquire::print_table];
+    println!("{}, {}", processor(), date());
+    for (name, print) in TABLES.into_iter().zip(tables) {
+        if options.wants(name) {
+            println!();
+            print(&options.effort);
+        }
     }
 }
 

@@ -9,6 +9,7 @@ use oracle::isdb::params::{Mode, SEGMENTS};
 use oracle::isdb::tables;
 use oracle::rng::Rng;
 use oracle::segment_list::{answer, every_question, lines, random_question};
+use oracle::stored_acquire;
 use std::fs;
 use std::io::{self, Read, Write};
 use std::process::ExitCode;
@@ -18,6 +19,8 @@ store: write a sample of the oracle's answers
 
   store [--seed N] FILE       write the binary sample of layouts to FILE
   store --tables FILE         write the tables of the standard to FILE
+  store --acquire FILE [--seed N]
+                              write the answers of acquisition to FILE
   store --lines N [--seed N]  print N random questions for segments; `all` prints every one
   store --answers             print the answers to the questions on standard input
   --help                      this text
@@ -28,6 +31,7 @@ The seed is 1 unless it is given. README.md describes the binary files.";
 enum Task {
     Sample(String),
     Tables(String),
+    Acquire(String),
     Lines(u64),
     AllLines,
     Answers,
@@ -43,6 +47,7 @@ fn task() -> (Task, u64) {
                 continue;
             }
             "--tables" => Task::Tables(args.value("--tables")),
+            "--acquire" => Task::Acquire(args.value("--acquire")),
             "--answers" => Task::Answers,
             "--lines" => lines_task(&mut args),
             option if option.starts_with('-') => args.fail(format!("unknown word {option}")),
@@ -179,6 +184,7 @@ fn main() -> ExitCode {
     let done = match task {
         Task::Sample(path) => fs::write(path, sample(seed)),
         Task::Tables(path) => fs::write(path, tables()),
+        Task::Acquire(path) => fs::write(path, stored_acquire::stored(seed)),
         Task::Lines(count) => print_lines((0..count).map(|_| random_question(&mut rng))),
         Task::AllLines => print_lines(every_question()),
         Task::Answers => print_answers(),

@@ -1,0 +1,18 @@
+-- `replay_acquire::bits_64` is safe: what is its own equal is no NaN.
+-- Assumes nothing.
+use Rattle.replay_acquire.proofs.Floats.{no-nan}
+use borrow.Author.Needs.{needs}
+use Rattle.replay_acquire.proofs.bits_64.Statement.{statement}
+use Rattle.replay_acquire.proofs.bits_64.Tie as tie
+
+returns : tie.Need-returns
+returns c = search needs
+
+float-to-bits-result : tie.Need-float-to-bits-result
+float-to-bits-result c = no-nan (c .before .args .x) (c .if1 .left)
+
+returns-2 : tie.Need-returns-2
+returns-2 c = search needs
+
+pub bits-64-spec : {M : Type 1} → statement M
+bits-64-spec = tie.close (tie.spec returns float-to-bits-result returns-2)

@@ -1,0 +1,56 @@
+-- `replay_acquire::run` is safe and ends: the turns that are left fall.
+-- Assumes nothing.
+use mathlib.Core.Path.{_≡_}
+use lib.ListN.{length}
+use borrow.Author.Needs.{needs}
+use Rattle.replay_acquire.proofs.run.Statement.{statement}
+use Rattle.replay_acquire.proofs.run.Tie as tie
+
+abbrev Inv-loop : tie.InvT-loop
+Inv-loop counts₀ turns₀ counts turns = length counts ≡ length counts₀
+
+abbrev μ-loop : tie.MeasureT-loop
+μ-loop counts₀ turns₀ counts turns = turns
+
+loop-holds : tie.Need-loop-holds Inv-loop μ-loop
+loop-holds c = search needs
+
+next-record-requires : tie.Need-next-record-requires Inv-loop μ-loop
+next-record-requires c κs = search needs
+
+same-length : tie.Need-same-length Inv-loop μ-loop
+same-length c = search needs
+
+returns : tie.Need-returns Inv-loop μ-loop
+returns c = search needs
+
+sub-turns : tie.Need-sub-turns Inv-loop μ-loop
+sub-turns c = search needs
+
+loop-less : tie.Need-loop-less Inv-loop μ-loop
+loop-less c = search needs
+
+loop-again : tie.Need-loop-again Inv-loop μ-loop
+loop-again c = search needs
+
+same-length-2 : tie.Need-same-length-2 Inv-loop μ-loop
+same-length-2 c = search needs
+
+returns-2 : tie.Need-returns-2 Inv-loop μ-loop
+returns-2 c = search needs
+
+pub run-spec : {M : Type 1} → statement M
+run-spec =
+    tie.close
+    (tie.spec
+    Inv-loop
+    μ-loop
+    loop-holds
+    next-record-requires
+    same-length
+    returns
+    sub-turns
+    loop-less
+    loop-again
+    same-length-2
+    returns-2)

@@ -1,0 +1,675 @@
+// Replays the stored answers of acquisition: for each record it makes the port's call, and compares
+// the refusal's number, every number of the answer and every ratio with what stands in the record.
+// What a refusal leaves as it was, and the scratch of the guess, counts as one entry. A record that
+// ends early, or makes no sense, counts as a difference and ends the run.
+ghost use Prim.Native.Nat.{_+_, _*_, _≤_};
+ghost use mathlib.Core.Path.{_≡_};
+ghost use lib.ListN.{length};
+use guess::GuardSearch;
+use guess::ModeGuess;
+use guess::SamplesNeeded;
+use pilot_phase::PilotPhase;
+use replay::Head;
+use replay::Tally;
+use shift::ShiftAnswer;
+use tmcc::SoftTmcc;
+
+// Room for the most parts that a record has, as they are stored, and as floats. Each `ensures` gives
+// the length alone, which lending needs.
+fn byte_room() -> [u8; 21504]
+    ensures { λ r. ⌜ 21504 ≡ length r ⌝ }
+{
+    [0; 21504]
+}
+
+fn float_room() -> [f32; 21504]
+    ensures { λ r. ⌜ 21504 ≡ length r ⌝ }
+{
+    [0.0; 21504]
+}
+
+// Room for ratios and for the scratch of the guess: each entry is 7, and a refusal leaves it so.
+fn ratio_room() -> [f32; 32259]
+    ensures { λ r. ⌜ 32259 ≡ length r ⌝ }
+{
+    [7.0; 32259]
+}
+
+fn scratch_room() -> [f64; 32259]
+    ensures { λ r. ⌜ 32259 ≡ length r ⌝ }
+{
+    [7.0; 32259]
+}
+
+// The bits of 7 in both formats.
+const SEVEN_32: u64 = 0x40e0_0000;
+
+const SEVEN_64: u64 = 0x401c_0000_0000_0000;
+
+fn wide(number: u32) -> u64 {
+    number as u64
+}
+
+// The bits of a float; every NaN has the same ones.
+fn bits_32(x: f32) -> u64 {
+    if x != x {
+        return 0x7fc0_0000;
+    }
+    wide(f32::to_bits(x))
+}
+
+fn bits_64(x: f64) -> u64 {
+    if x != x {
+        return 0x7ff8_0000_0000_0000;
+    }
+    f64::to_bits(x)
+}
+
+// The number of four bytes, the low one first, that begins at an index.
+fn word_at(bytes: &[u8], at: usize) -> u64
+    requires { ⌜ at + 4 ≤ length (now bytes) ⌝ }
+{
+    replay::number_at(bytes, at + 2) << 16 | replay::number_at(bytes, at)
+}
+
+// What a stored byte stands for: 128 less than itself.
+fn value_of(byte: u8) -> f32 {
+    byte as f32 - 128.0
+}
+
+// Writes what the first n bytes stand for.
+fn put_values(bytes: &[u8], n: usize, out: &mut [f32])
+    requires { ⌜ (n ≤ length (now bytes)) × (n ≤ length (now out)) ⌝ }
+{
+    let mut i: usize = 0;
+    while i < n {
+        out[i] = value_of(bytes[i]);
+        i += 1;
+    }
+}
+
+// Reads n parts of spectra or samples: whether they were there and found room.
+fn read_floats(out: &mut [f32], n: usize) -> bool {
+    if out.len() < n {
+        return false;
+    }
+    if 21504 < n {
+        return false;
+    }
+    let mut room = byte_room();
+    if !replay::read_part(&mut room, n) {
+        return false;
+    }
+    put_values(&room, n, out);
+    true
+}
+
+// Reads a number of four bytes, and compares it with what the port gave.
+fn check_number(got: u64, tally: Tally) -> Tally {
+    if tally.cut {
+        return tally;
+    }
+    let mut room = [0u8; 4];
+    if !replay::read_part(&mut room, 4) {
+        return tally.ended();
+    }
+    tally.entry(got == word_at(&room, 0))
+}
+
+// The bits of a float of four bytes.
+fn check_32(got: f32, tally: Tally) -> Tally {
+    check_number(bits_32(got), tally)
+}
+
+// The bits of a float of eight bytes.
+fn check_64(got: f64, tally: Tally) -> Tally {
+    if tally.cut {
+        return tally;
+    }
+    let mut room = [0u8; 8];
+    if !replay::read_part(&mut room, 8) {
+        return tally.ended();
+    }
+    tally.entry(bits_64(got) == word_at(&room, 4) << 32 | word_at(&room, 0))
+}
+
+fn joined(low: u8, high: u8) -> u16 {
+    (high as u16) << 8 | low as u16
+}
+
+// What a stored number with a sign stands for: 32,768 less than itself.
+fn signed(number: u16) -> i64 {
+    number as i64 - 32768
+}
+
+// Reads a number of two bytes that has a sign, and compares it.
+fn check_signed(got: i64, tally: Tally) -> Tally {
+    if tally.cut {
+        return tally;
+    }
+    let mut room = [0u8; 2];
+    if !replay::read_part(&mut room, 2) {
+        return tally.ended();
+    }
+    tally.entry(got == signed(joined(room[0], room[1])))
+}
+
+// Compares the first n floats that the port gave with those that are stored.
+fn compare_floats(got: &[f32], stored: &[u8], n: usize, tally: Tally) -> Tally
+    requires { ⌜ (n ≤ length (now got)) × (4 * n ≤ length (now stored)) ⌝ }
+{
+    let mut t = tally;
+    let mut i: usize = 0;
+    while i < n {
+        t = t.entry(bits_32(got[i]) == word_at(stored, 4 * i));
+        i += 1;
+    }
+    t
+}
+
+// Reads n floats, and compares each with what the port gave.
+fn check_floats(got: &[f32], n: usize, tally: Tally) -> Tally {
+    if tally.cut {
+        return tally;
+    }
+    if got.len() < n {
+        return tally.ended();
+    }
+    if 5376 < n {
+        return tally.ended();
+    }
+    let mut room = byte_room();
+    if !replay::read_part(&mut room, 4 * n) {
+        return tally.ended();
+    }
+    compare_floats(got, &room, n, tally)
+}
+
+// Whether every ratio is the 7 that was there before.
+fn are_left(ratios: &[f32]) -> bool {
+    let mut i: usize = 0;
+    while i < ratios.len() {
+        if bits_32(ratios[i]) != SEVEN_32 {
+            return false;
+        }
+        i += 1;
+    }
+    true
+}
+
+// The bits of an entry of the scratch of which the first n are zeros.
+fn cleared_bits(i: usize, n: usize) -> u64 {
+    if i < n {
+        return 0;
+    }
+    SEVEN_64
+}
+
+// Whether the first n entries of the scratch are zeros, and the others 7 as before.
+fn is_cleared(scratch: &[f64], n: usize) -> bool {
+    let mut i: usize = 0;
+    while i < scratch.len() {
+        if bits_64(scratch[i]) != cleared_bits(i, n) {
+            return false;
+        }
+        i += 1;
+    }
+    true
+}
+
+// What a record begins with: the arguments that are numbers, the lengths of the others, and the
+// refusal's number or 0. An operation leaves alone what it has no use for.
+struct Asked {
+    mode: u8,
+    filter: u8,
+    // Kinds, or modes of the guess.
+    first: usize,
+    // Guards.
+    second: usize,
+    // Parts of spectra or samples.
+    floats: usize,
+    // The bound, or symbols.
+    number: usize,
+    // Ratios or scratch that is lent.
+    lent: usize,
+    code: u8,
+}
+
+fn size_at(head: &[u8], at: usize) -> usize
+    requires { ⌜ at + 2 ≤ length (now head) ⌝ }
+{
+    replay::number_at(head, at) as usize
+}
+
+fn short_size(byte: u8) -> usize {
+    byte as usize
+}
+
+fn asked_by(head: &[u8]) -> Asked
+    requires { ⌜ length (now head) ≡ 12 ⌝ }
+{
+    Asked {
+        mode: head[1],
+        filter: head[2],
+        first: short_size(head[3]),
+        second: short_size(head[4]),
+        floats: size_at(head, 5),
+        number: size_at(head, 7),
+        lent: size_at(head, 9),
+        code: head[11],
+    }
+}
+
+// An answer of the shift; where it is refused, the others are zeros.
+struct Shift {
+    code: u8,
+    shift: i64,
+    score: f32,
+}
+
+fn shift_of(answer: ShiftAnswer) -> Shift {
+    match answer {
+        ShiftAnswer::Shift(z, s) => Shift {
+            code: 0,
+            shift: z,
+            score: s,
+        },
+        ShiftAnswer::Refused(code) => Shift {
+            code: code,
+            shift: 0,
+            score: 0.0,
+        },
+    }
+}
+
+// The shift, its score and all ratios.
+fn compare_shift(asked: Asked, got: Shift, ratios: &[f32], tally: Tally) -> Tally {
+    let coded = tally.entry(got.code == asked.code);
+    if asked.code != 0 {
+        return coded.entry(are_left(ratios));
+    }
+    let shifted = check_signed(got.shift, coded);
+    check_floats(ratios, asked.lent, check_32(got.score, shifted))
+}
+
+fn check_shift(asked: Asked, floats: &[f32], tally: Tally) -> Tally
+    requires { ⌜ asked .lent ≤ 32259 ⌝ }
+{
+    let lent = asked.lent;
+    let mut space = ratio_room();
+    let ratios: &mut [f32] = &mut space;
+    let answer = shift::integer_cfo(asked.mode, floats, asked.number, &mut ratios[0..lent]);
+    compare_shift(asked, shift_of(answer), ratios, tally)
+}
+
+// The kinds, their scores and all ratios.
+fn compare_kinds(
+    asked: Asked,
+    kinds: &[u8],
+    scores: &[f32],
+    ratios: &[f32],
+    tally: Tally,
+) -> Tally {
+    if asked.code != 0 {
+        return tally.entry(are_left(ratios));
+    }
+    if kinds.len() < 13 {
+        return tally.ended();
+    }
+    let scored = check_floats(scores, 13, replay::check_bytes(kinds, 13, tally));
+    check_floats(ratios, asked.lent, scored)
+}
+
+fn check_kinds(asked: Asked, floats: &[f32], tally: Tally) -> Tally
+    requires { ⌜ asked .lent ≤ 32259 ⌝ }
+{
+    let lent = asked.lent;
+    let mut space = ratio_room();
+    let ratios: &mut [f32] = &mut space;
+    let answer = segment_kinds::detect_kinds(asked.mode, floats, &mut ratios[0..lent]);
+    let kinds = answer.kinds;
+    let scores = answer.scores;
+    let coded = tally.entry(answer.code == asked.code);
+    compare_kinds(asked, &kinds, &scores, ratios, coded)
+}
+
+// An answer of the soft TMCC value, or of the samples needed, as the bits or the number; where it is
+// refused, that is 0.
+struct Single {
+    code: u8,
+    value: u64,
+}
+
+fn soft_of(answer: SoftTmcc) -> Single {
+    match answer {
+        SoftTmcc::Value(v) => Single {
+            code: 0,
+            value: bits_32(v),
+        },
+        SoftTmcc::Refused(code) => Single {
+            code: code,
+            value: 0,
+        },
+    }
+}
+
+fn needed_of(answer: SamplesNeeded) -> Single {
+    match answer {
+        SamplesNeeded::Samples(n) => Single {
+            code: 0,
+            value: n as u64,
+        },
+        SamplesNeeded::Refused(code) => Single {
+            code: code,
+            value: 0,
+        },
+    }
+}
+
+fn compare_single(asked: Asked, got: Single, tally: Tally) -> Tally {
+    let coded = tally.entry(got.code == asked.code);
+    if asked.code != 0 {
+        return coded;
+    }
+    check_number(got.value, coded)
+}
+
+// An answer of the pilot phase; where there are no scattered pilots, phase and share are zeros.
+struct Phase {
+    found: u64,
+    phase: u64,
+    share: f32,
+}
+
+fn wide_byte(byte: u8) -> u64 {
+    byte as u64
+}
+
+fn phase_of(answer: PilotPhase) -> Phase {
+    match answer {
+        PilotPhase::NoScatteredPilots => Phase {
+            found: 0,
+            phase: 0,
+            share: 0.0,
+        },
+        PilotPhase::Phase(p, share) => Phase {
+            found: 1,
+            phase: wide_byte(p),
+            share: share,
+        },
+    }
+}
+
+// Whether there are scattered pilots, the phase, its share, the four counts and the lead.
+fn compare_phase(got: Phase, counts: [u32; 4], lead: u32, tally: Tally) -> Tally {
+    let found = check_number(got.phase, check_number(got.found, tally));
+    let shared = check_32(got.share, found);
+    let first = check_number(wide(counts[1]), check_number(wide(counts[0]), shared));
+    let second = check_number(wide(counts[3]), check_number(wide(counts[2]), first));
+    check_number(wide(lead), second)
+}
+
+fn check_phase(asked: Asked, kinds: &[u8], floats: &[f32], tally: Tally) -> Tally {
+    let answer = pilot_phase::detect_sp_phase(asked.mode, kinds, floats);
+    let coded = tally.entry(answer.code == asked.code);
+    if asked.code != 0 {
+        return coded;
+    }
+    let phase = answer.phase;
+    let counts = answer.counts;
+    compare_phase(phase_of(phase), counts, answer.lead, coded)
+}
+
+// An answer of the guess; where nothing is found, the guess is of zeros.
+struct Guessed {
+    code: u8,
+    found: u64,
+    guess: ModeGuess,
+}
+
+fn no_guess(code: u8) -> Guessed {
+    Guessed {
+        code: code,
+        found: 0,
+        guess: ModeGuess {
+            mode: 0,
+            guard: 0,
+            offset: 0,
+            metric: 0.0,
+            re: 0.0,
+            im: 0.0,
+        },
+    }
+}
+
+fn guessed_of(answer: GuardSearch) -> Guessed {
+    match answer {
+        GuardSearch::Found(guess) => Guessed {
+            code: 0,
+            found: 1,
+            guess: guess,
+        },
+        GuardSearch::Nothing => no_guess(0),
+        GuardSearch::Refused(code) => no_guess(code),
+    }
+}
+
+// Whether something is found, then the guess.
+fn compare_guess(found: u64, guess: ModeGuess, tally: Tally) -> Tally {
+    let mode = check_number(wide_byte(guess.mode), check_number(found, tally));
+    let guard = check_number(wide_byte(guess.guard), mode);
+    let offset = check_number(guess.offset as u64, guard);
+    check_64(guess.im, check_64(guess.re, check_64(guess.metric, offset)))
+}
+
+// The scratch is zeros after a search, and as it was after a refusal.
+fn compare_search(asked: Asked, got: Guessed, scratch: &[f64], tally: Tally) -> Tally {
+    let coded = tally.entry(got.code == asked.code);
+    if asked.code != 0 {
+        return coded.entry(is_cleared(scratch, 0));
+    }
+    let guess = got.guess;
+    let cleared = coded.entry(is_cleared(scratch, asked.lent));
+    compare_guess(got.found, guess, cleared)
+}
+
+fn check_guess(asked: Asked, modes: &[u8], guards: &[u8], floats: &[f32], tally: Tally) -> Tally
+    requires { ⌜ asked .lent ≤ 32259 ⌝ }
+{
+    let lent = asked.lent;
+    let mut space = scratch_room();
+    let scratch: &mut [f64] = &mut space;
+    let answer = guess::detect_mode(floats, modes, guards, &mut scratch[0..lent]);
+    compare_search(asked, guessed_of(answer), scratch, tally)
+}
+
+// Makes the call of an operation's number.
+fn check_call(
+    operation: u8,
+    asked: Asked,
+    first: &[u8],
+    second: &[u8],
+    floats: &[f32],
+    tally: Tally,
+) -> Tally
+    requires { ⌜ asked .lent ≤ 32259 ⌝ }
+{
+    match operation {
+        1 => check_shift(asked, floats, tally),
+        2 => check_kinds(asked, floats, tally),
+        3 => {
+            let answer = tmcc::tmcc_soft(asked.mode, first, floats, asked.filter);
+            compare_single(asked, soft_of(answer), tally)
+        }
+        4 => check_phase(asked, first, floats, tally),
+        5 => check_guess(asked, first, second, floats, tally),
+        _ => {
+            let answer = guess::samples_needed(first, second, asked.number);
+            compare_single(asked, needed_of(answer), tally)
+        }
+    }
+}
+
+// Reads the lists and the floats: whether they were there.
+fn read_lists(first: &mut [u8], second: &mut [u8], floats: &mut [f32], asked: Asked) -> bool {
+    if !replay::read_part(first, asked.first) {
+        return false;
+    }
+    if !replay::read_part(second, asked.second) {
+        return false;
+    }
+    read_floats(floats, asked.floats)
+}
+
+fn check_record(operation: u8, asked: Asked, tally: Tally) -> Tally {
+    let a = asked.first;
+    let b = asked.second;
+    let n = asked.floats;
+    if 32259 < asked.lent {
+        return tally.ended();
+    }
+    if 16 < a {
+        return tally.ended();
+    }
+    if 16 < b {
+        return tally.ended();
+    }
+    if 21504 < n {
+        return tally.ended();
+    }
+    let mut first = [0u8; 16];
+    let mut second = [0u8; 16];
+    let mut floats = float_room();
+    if !read_lists(&mut first, &mut second, &mut floats, asked) {
+        return tally.ended();
+    }
+    check_call(
+        operation,
+        asked,
+        &first[0..a],
+        &second[0..b],
+        &floats[0..n],
+        tally,
+    )
+}
+
+// The count of an operation's number; 0 is that of records. There are two numbers for each: how many
+// were compared, and how many differ.
+fn tally_of(counts: &[u64], i: usize) -> Tally
+    requires { ⌜ 2 * i + 2 ≤ length (now counts) ⌝ }
+{
+    Tally {
+        compared: counts[2 * i],
+        differ: counts[2 * i + 1],
+        cut: false,
+    }
+}
+
+fn put_tally(counts: &mut [u64], i: usize, tally: Tally)
+    requires { ⌜ 2 * i + 2 ≤ length (now counts) ⌝ }
+{
+    counts[2 * i] = tally.compared;
+    counts[2 * i + 1] = tally.differ;
+}
+
+// A record cannot be read: a difference.
+fn put_broken(counts: &mut [u64])
+    requires { ⌜ length (now counts) ≡ 14 ⌝ }
+{
+    let records = tally_of(counts, 0);
+    put_tally(counts, 0, records.ended());
+}
+
+// A record was read to its end.
+fn put_whole(counts: &mut [u64])
+    requires { ⌜ length (now counts) ≡ 14 ⌝ }
+{
+    let records = tally_of(counts, 0);
+    put_tally(counts, 0, records.entry(true));
+}
+
+// A record that begins with its operation's number: whether it could be read.
+fn replay_record(head: &[u8], counts: &mut [u64]) -> bool
+    requires { ⌜ (length (now head) ≡ 12) × (length (now counts) ≡ 14) ⌝ }
+{
+    let i = short_size(head[0]);
+    if i == 0 {
+        put_broken(counts);
+        return false;
+    }
+    if i > 6 {
+        put_broken(counts);
+        return false;
+    }
+    let tally = check_record(head[0], asked_by(head), tally_of(counts, i));
+    put_tally(counts, i, tally);
+    if tally.cut {
+        return false;
+    }
+    put_whole(counts);
+    true
+}
+
+// Reads the next record: whether to read on.
+fn next_record(counts: &mut [u64]) -> bool
+    requires { ⌜ length (now counts) ≡ 14 ⌝ }
+{
+    let mut head = [0u8; 12];
+    match replay::read_head(&mut head) {
+        Head::Whole => replay_record(&head, counts),
+        Head::Nothing => false,
+        Head::Piece => {
+            put_broken(counts);
+            false
+        }
+    }
+}
+
+// Nothing says that the input ends, so the loop counts its turns down from a number that no run
+// uses up.
+fn run(counts: &mut [u64])
+    requires { ⌜ length (now counts) ≡ 14 ⌝ }
+{
+    let mut turns = u64::MAX;
+    while turns > 0 {
+        if !next_record(counts) {
+            return;
+        }
+        turns -= 1;
+    }
+}
+
+// Prints the line of a count, and gives all differences up to it.
+fn print_line(counts: &[u64], i: usize, name: &[u8], before: Tally) -> Tally
+    requires { ⌜ 2 * i + 2 ≤ length (now counts) ⌝ }
+{
+    let tally = tally_of(counts, i);
+    tally.print(name);
+    before.with(tally)
+}
+
+// The lines up to that of the soft value.
+fn print_first(counts: &[u64]) -> Tally
+    requires { ⌜ length (now counts) ≡ 14 ⌝ }
+{
+    let records = print_line(counts, 0, b"records", Tally::new());
+    let shift = print_line(counts, 1, b"shift", records);
+    let kinds = print_line(counts, 2, b"kinds", shift);
+    print_line(counts, 3, b"soft TMCC", kinds)
+}
+
+fn print(counts: &[u64])
+    requires { ⌜ length (now counts) ≡ 14 ⌝ }
+{
+    let first = print_first(counts);
+    let phase = print_line(counts, 4, b"pilot phase", first);
+    let guess = print_line(counts, 5, b"guess", phase);
+    let all = print_line(counts, 6, b"samples needed", guess);
+    replay::print_differences(all.differ);
+}
+
+fn main() {
+    let mut counts = [0u64; 14];
+    run(&mut counts);
+    print(&counts);
+}
