@@ -96,6 +96,27 @@ fn part(args: &mut Args) -> String {
 }
 
 impl Options {
+    /// How many random cases the parts that ran were given.
+    fn counts(&self) -> String {
+        let mut counts = String::new();
+        if self.wants("layouts") {
+            counts += &format!(
+                ", {} random calls of each operation of the layout",
+                self.cases
+            );
+        }
+        if self.wants("floats") {
+            counts += &format!(", {} random inputs of each function of floats", self.floats);
+        }
+        if self.wants("acquisition") {
+            counts += &format!(
+                ", {} random calls and changed captures of each operation of acquisition",
+                self.captures
+            );
+        }
+        counts
+    }
+
     /// True if the part is to be compared.
     fn wants(&self, part: &str) -> bool {
         self.only.as_deref().is_none_or(|only| only == part)
@@ -426,10 +447,9 @@ fn main() -> ExitCode {
         println!("\n{met} of {asked} moved captures met the proviso of the shift");
     }
     println!(
-        "\nseed {}, {} random calls of each operation, {} random inputs of each function of floats, \
-         {} random calls and changed captures of each operation of acquisition, \
-         {differences} differences",
-        options.seed, options.cases, options.floats, options.captures
+        "\nseed {}{}, {differences} differences",
+        options.seed,
+        options.counts()
     );
     if let Some(error) = failure {
         let program = segments_program::path();
