@@ -37,6 +37,7 @@ pub mod samples;
 pub mod segment_list;
 pub mod segments_program;
 pub mod stored_acquire;
+pub mod stored_floats;
 pub mod tally;
 pub mod timing;
 

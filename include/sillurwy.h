@@ -1,0 +1,223 @@
+/* Sillurwy: carrier layout and acquisition for ISDB-T captures. The C functions of libhost.a, which
+ * `rt staticlib host` writes to target/staticlib/. For C99 and later and C++11 and later, on x86-64.
+ *
+ * Each operation returns 0 (SILLURWY_ACCEPTED) or the number of its refusal. Refusals are listed in
+ * their order: where several are true, the first is given. A refusal leaves everything lent as it
+ * was. Every number and every float may be handed over; an operation always returns.
+ *
+ * A list is a pointer and a length, which counts entries and not bytes. What the caller owes:
+ *   - no pointer is null, also where its length is 0, and each is aligned for its type;
+ *   - a pointer with a length points to that many entries, one without to a single number or to an
+ *     array of the size written;
+ *   - what is lent to be written overlaps nothing else that is lent in the same call.
+ * Nothing else is asked of the caller. No function keeps a pointer, allocates, or has a state; they
+ * may run on several threads at once. */
+#ifndef SILLURWY_H
+#define SILLURWY_H
+
+#include <stddef.h>
+#include <stdint.h>
+
+#ifdef __cplusplus
+extern "C" {
+#endif
+
+/* ---- Refusals ---- */
+
+enum sillurwy_refusal {
+    SILLURWY_ACCEPTED = 0,
+    SILLURWY_BAD_MODE = 1,    /* a mode other than 1, 2, 3 */
+    SILLURWY_BAD_KINDS = 2,   /* not thirteen kinds of 0 or 1 */
+    SILLURWY_BAD_PHASE = 3,   /* a phase above 3 */
+    SILLURWY_BAD_FILTER = 3,  /* a filter of the soft TMCC value above 2 */
+    SILLURWY_BAD_CARRIER = 4, /* a carrier at or above k_total */
+    SILLURWY_BAD_FLOATS = 5,  /* floats that are not whole spectra or samples, or too many */
+    SILLURWY_NO_SPECTRA = 6,  /* no spectra */
+    SILLURWY_BAD_LENGTH = 7,  /* an output of the wrong length, or too short a scratch */
+    SILLURWY_BAD_BOUND = 8,   /* a bound above n/2 */
+    SILLURWY_BAD_GUARD = 9,   /* a guard other than 4, 8, 16, 32 */
+    SILLURWY_BAD_SYMBOLS = 10 /* more than 64 symbols */
+};
+
+/* ---- Codes ---- */
+
+/* The kind of a segment. Kinds are handed over in segment-number order. */
+enum sillurwy_segment_kind {
+    SILLURWY_COHERENT = 0,
+    SILLURWY_DIFFERENTIAL = 1
+};
+
+/* The role of a carrier in a symbol. */
+enum sillurwy_carrier_role {
+    SILLURWY_DATA = 0,
+    SILLURWY_SP = 1,   /* scattered pilot */
+    SILLURWY_CP = 2,   /* continual pilot */
+    SILLURWY_TMCC = 3,
+    SILLURWY_AC1 = 4,
+    SILLURWY_AC2 = 5,
+    SILLURWY_EDGE = 6  /* the band's last carrier */
+};
+
+/* Which segments the soft TMCC value takes. */
+enum sillurwy_filter {
+    SILLURWY_FILTER_COHERENT = 0,
+    SILLURWY_FILTER_DIFFERENTIAL = 1,
+    SILLURWY_FILTER_ALL = 2
+};
+
+/* ---- Sizes. A macro over a mode gives 0 for a number that is no mode. ---- */
+
+#define SILLURWY_BY_MODE(mode, one, two, three) \
+    ((mode) == 1 ? (one) : (mode) == 2 ? (two) : (mode) == 3 ? (three) : 0ul)
+
+#define SILLURWY_SEGMENTS 13ul
+#define SILLURWY_PHASES 4ul
+
+/* n, the bins of the FFT */
+#define SILLURWY_FFT_SIZE(mode) SILLURWY_BY_MODE(mode, 2048ul, 4096ul, 8192ul)
+/* c, the carriers of a segment */
+#define SILLURWY_CARRIERS_PER_SEGMENT(mode) SILLURWY_BY_MODE(mode, 108ul, 216ul, 432ul)
+/* nc, the data carriers of a segment */
+#define SILLURWY_DATA_CARRIERS_PER_SEGMENT(mode) SILLURWY_BY_MODE(mode, 96ul, 192ul, 384ul)
+/* k_total, the carriers of the band with its edge */
+#define SILLURWY_TOTAL_CARRIERS(mode) SILLURWY_BY_MODE(mode, 1405ul, 2809ul, 5617ul)
+/* 13 x nc, the numbers of the data list */
+#define SILLURWY_DATA_LIST_LENGTH(mode) \
+    (SILLURWY_SEGMENTS * SILLURWY_DATA_CARRIERS_PER_SEGMENT(mode))
+/* the most numbers that the continual list has, whatever the kinds */
+#define SILLURWY_CONTINUAL_LIST_MOST(mode) SILLURWY_BY_MODE(mode, 157ul, 313ul, 625ul)
+/* the least entries of scratch for a number of pairs of samples */
+#define SILLURWY_SCRATCH_LENGTH(pairs) (3ul * ((pairs) + 1ul))
+
+#define SILLURWY_MOST_SPECTRA 1024ul
+#define SILLURWY_MOST_SAMPLES 1048576ul /* pairs */
+#define SILLURWY_MOST_SYMBOLS 64ul
+
+/* ---- Layout ---- */
+
+/* The FFT bin of carrier k: (k - (k_total - 1)/2) mod n.
+ *   bin  the answer
+ * Refused: 1 bad mode; 4 k at or above k_total. */
+uint8_t sillurwy_carrier_bin(uint8_t mode, size_t k, size_t *bin);
+
+/* The role of each carrier of the band, enum sillurwy_carrier_role in a byte.
+ *   phase  of the scattered pilots, 0 to 3
+ *   kinds  thirteen, by segment number
+ *   out    SILLURWY_TOTAL_CARRIERS(mode) bytes
+ * Refused: 1 bad mode; 2 bad kinds; 3 bad phase; 7 out of another length. */
+uint8_t sillurwy_role_map(uint8_t mode, uint8_t phase, const uint8_t *kinds, size_t kinds_len,
+                          uint8_t *out, size_t out_len);
+
+/* The pilot sign of each carrier of the band: 0 for +4/3, 1 for -4/3.
+ *   out  SILLURWY_TOTAL_CARRIERS(mode) bytes
+ * Refused: 1 bad mode; 7 out of another length. */
+uint8_t sillurwy_sign_map(uint8_t mode, uint8_t *out, size_t out_len);
+
+/* The data carriers of the band, in segment-number order, ascending within a segment.
+ *   phase, kinds  as for the role map
+ *   out           SILLURWY_DATA_LIST_LENGTH(mode) numbers
+ * Refused: 1 bad mode; 2 bad kinds; 3 bad phase; 7 out of another length. */
+uint8_t sillurwy_data_list(uint8_t mode, uint8_t phase, const uint8_t *kinds, size_t kinds_len,
+                           uint32_t *out, size_t out_len);
+
+/* The continual carriers: all TMCC, then all AC, then all CP, each ascending, then the edge.
+ *   out    room for them: SILLURWY_CONTINUAL_LIST_MOST(mode) is enough for any kinds. What lies
+ *          beyond the count keeps its contents
+ *   count  how many there are
+ * Refused: 1 bad mode; 2 bad kinds; 7 out shorter than the count. */
+uint8_t sillurwy_continual_list(uint8_t mode, const uint8_t *kinds, size_t kinds_len,
+                                uint32_t *out, size_t out_len, size_t *count);
+
+/* ---- Acquisition. Floats are real and imaginary part in turn. ---- */
+
+/* The samples, in pairs, that the guard search needs to see at least `symbols` symbols.
+ *   modes, guards  lists of codes: 1, 2, 3 and 4, 8, 16, 32
+ *   symbols        at most SILLURWY_MOST_SYMBOLS
+ *   samples        the answer
+ * Refused: 1 a bad mode in the list; 9 a bad guard; 10 too many symbols. */
+uint8_t sillurwy_samples_needed(const uint8_t *modes, size_t modes_len, const uint8_t *guards,
+                                size_t guards_len, size_t symbols, size_t *samples);
+
+/* The guard search: mode, guard interval and timing of a capture.
+ *   samples        samples_len floats, at most SILLURWY_MOST_SAMPLES pairs
+ *   modes, guards  lists of codes, tried in this order
+ *   scratch        SILLURWY_SCRATCH_LENGTH(samples_len / 2) entries or more; all zeros after an
+ *                  accepted call
+ *   found          1 if there is a guess, else 0; then what follows keeps its contents
+ *   mode, guard    codes
+ *   offset         the sample at which a guard interval starts
+ *   metric         normalised correlation
+ *   re, im         both parts of the summed correlation
+ * Refused: 1 a bad mode in the list; 9 a bad guard; 5 an odd samples_len, or too many samples;
+ * 7 too short a scratch. */
+uint8_t sillurwy_detect_mode(const float *samples, size_t samples_len, const uint8_t *modes,
+                             size_t modes_len, const uint8_t *guards, size_t guards_len,
+                             double *scratch, size_t scratch_len, uint8_t *found, uint8_t *mode,
+                             uint8_t *guard, size_t *offset, double *metric, double *re,
+                             double *im);
+
+/* The integer frequency offset of spectra, in bins.
+ *   spectra  one behind another, 1 to SILLURWY_MOST_SPECTRA, each of n pairs by bin:
+ *            2 x SILLURWY_FFT_SIZE(mode) floats
+ *   bound    the largest shift that is tried, either way; at most n/2
+ *   ratios   SILLURWY_FFT_SIZE(mode) floats: the ratio of each bin is left here
+ *   shift    the answer, from -bound to bound
+ *   score    its score
+ * Refused: 1 bad mode; 5 not whole spectra, or too many; 6 none; 7 ratios of another length; 8 a
+ * bound above n/2. */
+uint8_t sillurwy_integer_cfo(uint8_t mode, const float *spectra, size_t spectra_len, size_t bound,
+                             float *ratios, size_t ratios_len, int64_t *shift, float *score);
+
+/* The kinds of the thirteen segments.
+ *   spectra  one behind another, 1 to SILLURWY_MOST_SPECTRA, each of k_total pairs by carrier:
+ *            2 x SILLURWY_TOTAL_CARRIERS(mode) floats
+ *   ratios   SILLURWY_TOTAL_CARRIERS(mode) floats: the ratio of each carrier is left here
+ *   kinds    the answer, by segment number: SILLURWY_SEGMENTS bytes
+ *   scores   their scores: SILLURWY_SEGMENTS floats
+ * Refused: 1 bad mode; 5 not whole spectra, or too many; 6 none; 7 ratios of another length. */
+uint8_t sillurwy_detect_kinds(uint8_t mode, const float *spectra, size_t spectra_len,
+                              float *ratios, size_t ratios_len, uint8_t kinds[SILLURWY_SEGMENTS],
+                              float scores[SILLURWY_SEGMENTS]);
+
+/* The soft value of the TMCC carriers between two spectra.
+ *   kinds    thirteen, by segment number
+ *   spectra  two, the earlier first, each of k_total pairs by carrier
+ *   filter   enum sillurwy_filter
+ *   value    the answer
+ * Refused: 1 bad mode; 2 bad kinds; 5 not two spectra; 3 bad filter. */
+uint8_t sillurwy_tmcc_soft(uint8_t mode, const uint8_t *kinds, size_t kinds_len,
+                           const float *spectra, size_t spectra_len, uint8_t filter,
+                           float *value);
+
+/* The phase of the scattered pilots in the first spectrum.
+ *   kinds         thirteen, by segment number
+ *   spectra       one behind another, 0 to SILLURWY_MOST_SPECTRA, each of k_total pairs by carrier
+ *   found         1 if there are scattered pilots, else 0; then phase and share keep their contents
+ *   phase, share  the phase, 0 to 3, and the share of the votes that it has
+ *   counts        the votes for each phase: SILLURWY_PHASES numbers
+ *   lead          the largest count less the largest of the other three
+ * Refused: 1 bad mode; 2 bad kinds; 5 not whole spectra, or too many. */
+uint8_t sillurwy_detect_sp_phase(uint8_t mode, const uint8_t *kinds, size_t kinds_len,
+                                 const float *spectra, size_t spectra_len, uint8_t *found,
+                                 uint8_t *phase, float *share, uint32_t counts[SILLURWY_PHASES],
+                                 uint32_t *lead);
+
+/* ---- Floats. They refuse nothing and return their value; of NaNs, any may be given. ---- */
+
+/* The double nearest to the square root of x; a NaN below zero. */
+double sillurwy_root(double x);
+
+/* The float nearest to x. */
+float sillurwy_narrow(double x);
+
+/* The norm of a pair of floats: squares, sum and root in double, then narrowed. */
+float sillurwy_norm32(float re, float im);
+
+/* The norm of a pair of doubles: the root of the rounded sum of rounded squares. */
+double sillurwy_norm64(double re, double im);
+
+#ifdef __cplusplus
+}
+#endif
+
+#endif
