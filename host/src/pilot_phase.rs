@@ -1,0 +1,71 @@
+//! The scattered-pilot phase.
+
+use crate::ffi;
+use crate::params::{kind_codes, Kinds, Mode, Phase};
+use crate::refusal::{accepted, Refusal};
+
+/// The phase, if there is one.
+#[derive(Debug, Clone, Copy, PartialEq)]
+pub enum PilotPhase {
+    /// No segment is coherent.
+    NoScatteredPilots,
+    /// The phase of the first spectrum, and the share of the votes that it has.
+    Phase(Phase, f32),
+}
+
+/// The phase, and how the spectra voted.
+#[derive(Debug, Clone, Copy, PartialEq)]
+pub struct PilotAnswer {
+    /// The phase.
+    pub phase: PilotPhase,
+    /// The votes for each phase.
+    pub counts: [u32; 4],
+    /// The largest count less the largest of the other three.
+    pub lead: u32,
+}
+
+/// The phase of the scattered pilots.
+///
+/// Each spectrum has k_total pairs, by carrier, and votes once; there may be none.
+///
+/// Refused: [`BadFloats`](Refusal::BadFloats) unless whole spectra, at most
+/// [`MOST_SPECTRA`](crate::MOST_SPECTRA).
+///
+/// ```
+/// use sillurwy::params::{Mode, Phase, SegmentKind};
+/// use sillurwy::pilot_phase::{detect_sp_phase, PilotPhase};
+///
+/// // No spectra: ties go to the larger phase.
+/// let answer = detect_sp_phase(Mode::M1, &[SegmentKind::Coherent; 13], &[])?;
+/// assert_eq!(answer.phase, PilotPhase::Phase(Phase::P3, 0.0));
+/// let answer = detect_sp_phase(Mode::M1, &[SegmentKind::Differential; 13], &[])?;
+/// assert_eq!(answer.phase, PilotPhase::NoScatteredPilots);
+/// # Ok::<(), sillurwy::Refusal>(())
+/// ```
+pub fn detect_sp_phase(mode: Mode, kinds: &Kinds, spectra: &[f32]) -> Result<PilotAnswer, Refusal> {
+    let (mut found, mut number, mut share) = (0, 0, 0.0);
+    let (mut counts, mut lead) = ([0; 4], 0);
+    accepted(unsafe {
+        ffi::sillurwy_detect_sp_phase(
+            mode.number(),
+            kind_codes(kinds),
+            kinds.len(),
+            spectra.as_ptr(),
+            spectra.len(),
+            &mut found,
+            &mut number,
+            &mut share,
+            &mut counts,
+            &mut lead,
+        )
+    })?;
+    let phase = match found {
+        0 => PilotPhase::NoScatteredPilots,
+        _ => PilotPhase::Phase(Phase::from_number(number)?, share),
+    };
+    Ok(PilotAnswer {
+        phase,
+        counts,
+        lead,
+    })
+}
