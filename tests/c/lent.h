@@ -1,0 +1,47 @@
+/* Buffers to lend to a function under test. Each ends at a page that cannot be touched, or starts
+ * behind one; on its other side lie margin bytes. All is copied before the call, so that every byte
+ * that was written can be told after it. The library is compiled without a sanitizer's help: the
+ * pages find what it reads or writes outside, the margins and copies find the rest. */
+#ifndef LENT_H
+#define LENT_H
+
+#include <stdbool.h>
+#include <stddef.h>
+#include <stdint.h>
+
+enum use { TO_READ, TO_WRITE };
+
+/* Told what is wrong; it does not return. The fuzz driver has it. */
+void problem(const char *what, const char *name, long place);
+
+/* Forgets the buffers of the last call. */
+void lent_start(void);
+
+/* A buffer of `len` entries of `size` bytes each, filled with a pattern. */
+void *lent(const char *name, size_t len, size_t size, enum use use, bool at_end);
+
+/* Keeps a copy of every buffer: the call comes next. */
+void lent_ready(void);
+
+/* Holds every buffer to its copy: what is to be read and all margins are as they were, and after a
+ * refusal everything is. */
+void lent_check(bool refused);
+
+/* True if these bytes of a lent buffer are as they were. */
+bool lent_kept(const void *from, size_t bytes);
+
+/* Makes a mistake as a wrong function could, so that the checks can be seen to find it; false if
+ * the last call gives no occasion for it. */
+enum mistake {
+    NO_MISTAKE,
+    WRITE_BEHIND,
+    WRITE_BEFORE,
+    WRITE_READ_ONLY,
+    WRITE_REFUSED,
+    READ_BEHIND,
+    WRONG_CODE,
+    MISTAKES
+};
+bool lent_mistake(enum mistake mistake, bool refused);
+
+#endif
