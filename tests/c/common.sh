@@ -26,7 +26,7 @@ int main(void) { void *p = malloc(1); free(p); return 0; }' >"$built/try.src"
         "$@" -x "$language" "$built/try.src" -o "$built/try" >/dev/null 2>&1 && "$built/try"
 }
 
-# Prints those of the compilers that work, each once: language, then names. CC or CXX comes first.
+# Prints those of the compilers that work, each once: language, then names.
 working() {
     local language=$1 name file seen=" "
     shift
@@ -40,18 +40,20 @@ working() {
     done
 }
 
+# The C compilers: CC, or those of the usual names. There must be one.
 c_compilers() {
-    local found
-    found=$(working c ${CC:+"$CC"} cc gcc clang)
+    local names=${CC:-cc gcc clang} found
+    found=$(working c $names)
     if [ -z "$found" ]; then
-        say "no C compiler makes a program that runs: tried ${CC:+$CC, }cc, gcc and clang; CC names another"
+        say "no C compiler makes a program that runs; tried: $names. CC names another"
         return 1
     fi
     echo "$found"
 }
 
+# The C++ compilers: CXX, or those of the usual names. There may be none.
 cpp_compilers() {
-    working c++ ${CXX:+"$CXX"} c++ g++ clang++
+    working c++ ${CXX:-c++ g++ clang++}
 }
 
 # Prints the words that turn on the sanitizers of a compiler, nothing if it has not got them.
