@@ -1,10 +1,11 @@
 /* Calls every function of sillurwy.h from C and holds the answers to the stored ones, which
  * oracle/store wrote (oracle/README.md, "The stored answers", has the form of the files).
  *
- *   replay LAYOUT ACQUIRE FLOATS
+ *   replay LAYOUT ACQUIRE FLOATS [NAME]
  *
  * It prints for each function how many calls were compared and how many differ. The exit status is
- * 1 if any differs, if a file cannot be read to its end, or if a function was not called. */
+ * 1 if any differs, if a file cannot be read to its end, or if a function was not called. With a
+ * function's name, the first of its stored answers is damaged: this must be found. */
 #include "sillurwy.h"
 
 #include <stdbool.h>
@@ -41,6 +42,9 @@ static const char *const names[FUNCTIONS] = {
 
 static unsigned long calls[FUNCTIONS];
 static unsigned long differing[FUNCTIONS];
+
+/* The function whose next answer is damaged, if any. */
+static size_t damaged = FUNCTIONS;
 
 static void count(enum function function, bool good)
 {
@@ -106,6 +110,15 @@ static const uint8_t *take(struct reader *in, size_t bytes)
     }
     in->at += bytes;
     return from;
+}
+
+/* A stored answer comes next. */
+static void answer_of(struct reader *in, enum function function)
+{
+    if (function == damaged && in->at < in->size) {
+        in->bytes[in->at] ^= 1;
+        damaged = FUNCTIONS;
+    }
 }
 
 /* A number of some bytes, the low one first. */
@@ -220,6 +233,7 @@ static void role_map(struct reader *in, uint8_t mode, uint8_t phase, const uint8
     uint8_t code = sillurwy_role_map(mode, phase, kinds, 13, out, len - 1);
     count(ROLE_MAP, code == SILLURWY_BAD_LENGTH && untouched(out, len + 1));
     code = sillurwy_role_map(mode, phase, kinds, 13, out, len);
+    answer_of(in, ROLE_MAP);
     bool good = memcmp(take(in, len), out, len) == 0;
     count(ROLE_MAP, code == 0 && good && untouched(out + len, 1));
     free(out);
@@ -233,6 +247,7 @@ static void sign_map(struct reader *in, uint8_t mode)
     uint8_t code = sillurwy_sign_map(mode, out, len + 1);
     count(SIGN_MAP, code == SILLURWY_BAD_LENGTH && untouched(out, len + 1));
     code = sillurwy_sign_map(mode, out, len);
+    answer_of(in, SIGN_MAP);
     bool good = memcmp(take(in, len), out, len) == 0;
     count(SIGN_MAP, code == 0 && good && untouched(out + len, 1));
     free(out);
@@ -246,6 +261,7 @@ static void data_list(struct reader *in, uint8_t mode, uint8_t phase, const uint
     uint8_t code = sillurwy_data_list(mode, 4, kinds, 13, out, len);
     count(DATA_LIST, code == SILLURWY_BAD_PHASE && untouched(out, 4 * (len + 1)));
     code = sillurwy_data_list(mode, phase, kinds, 13, out, len);
+    answer_of(in, DATA_LIST);
     bool good = are_u32(in, out, len);
     count(DATA_LIST, code == 0 && good && untouched(out + len, 4));
     free(out);
@@ -268,6 +284,7 @@ static void continual_list(struct reader *in, uint8_t mode, const uint8_t *kinds
     if (len > most) {
         fail("has a longer continual list than the header says", in->name);
     }
+    answer_of(in, CONTINUAL_LIST);
     good &= are_u32(in, out, len);
     count(CONTINUAL_LIST, code == 0 && good && untouched(out + len, 4 * (most + 1 - len)));
     free(out);
@@ -281,6 +298,7 @@ static void carrier_bins(struct reader *in, uint8_t mode)
     count(CARRIER_BIN, code == SILLURWY_BAD_CARRIER && bin == SIZE_MAX);
     for (size_t k = 0; k < len; k++) {
         code = sillurwy_carrier_bin(mode, k, &bin);
+        answer_of(in, CARRIER_BIN);
         bool good = number(in, 2) == bin;
         count(CARRIER_BIN, code == 0 && good);
     }
@@ -332,6 +350,7 @@ static void integer_cfo(struct reader *in, const struct call *call)
         good &= untouched(ratios, 4 * call->lent);
         good &= untouched(&shift, sizeof shift) && untouched(&score, sizeof score);
     } else {
+        answer_of(in, INTEGER_CFO);
         good &= (int64_t)number(in, 2) - 32768 == shift;
         good &= is_f32(in, score);
         good &= are_f32(in, ratios, call->lent);
@@ -355,6 +374,7 @@ static void detect_kinds(struct reader *in, const struct call *call)
         good &= untouched(ratios, 4 * call->lent);
         good &= untouched(kinds, sizeof kinds) && untouched(scores, sizeof scores);
     } else {
+        answer_of(in, DETECT_KINDS);
         good &= memcmp(take(in, sizeof kinds), kinds, sizeof kinds) == 0;
         good &= are_f32(in, scores, SILLURWY_SEGMENTS);
         good &= are_f32(in, ratios, call->lent);
@@ -370,7 +390,12 @@ static void tmcc_soft(struct reader *in, const struct call *call)
     uint8_t code = sillurwy_tmcc_soft(call->mode, call->first, call->first_len, call->floats,
                                       call->len, call->filter, &value);
     bool good = code == call->code;
-    good &= call->code != 0 ? untouched(&value, sizeof value) : is_f32(in, value);
+    if (call->code != 0) {
+        good &= untouched(&value, sizeof value);
+    } else {
+        answer_of(in, TMCC_SOFT);
+        good &= is_f32(in, value);
+    }
     count(TMCC_SOFT, good);
 }
 
@@ -392,6 +417,7 @@ static void detect_sp_phase(struct reader *in, const struct call *call)
         good &= found == 0x5a && phase == 0x5a && untouched(&share, sizeof share);
         good &= untouched(counts, sizeof counts) && untouched(&lead, sizeof lead);
     } else {
+        answer_of(in, DETECT_SP_PHASE);
         good &= number(in, 4) == found;
         if (found == 1) {
             good &= number(in, 4) == phase;
@@ -427,6 +453,7 @@ static void detect_mode(struct reader *in, const struct call *call)
     if (call->code != 0) {
         good &= found == 0x5a && untouched(scratch, 8 * call->lent);
     } else {
+        answer_of(in, DETECT_MODE);
         good &= number(in, 4) == found;
         for (size_t i = 0; i < call->lent; i++) {
             good &= f64_bits(scratch[i]) == 0;
@@ -457,7 +484,12 @@ static void samples_needed(struct reader *in, const struct call *call)
     uint8_t code = sillurwy_samples_needed(call->first, call->first_len, call->second,
                                            call->second_len, call->number, &samples);
     bool good = code == call->code;
-    good &= call->code != 0 ? untouched(&samples, sizeof samples) : number(in, 4) == samples;
+    if (call->code != 0) {
+        good &= untouched(&samples, sizeof samples);
+    } else {
+        answer_of(in, SAMPLES_NEEDED);
+        good &= number(in, 4) == samples;
+    }
     count(SAMPLES_NEEDED, good);
 }
 
@@ -501,16 +533,22 @@ static void replay_floats(struct reader *in)
     while (in->at < in->size) {
         uint8_t function = byte(in);
         if (function == 1) {
-            count(ROOT, is_f64(in, sillurwy_root(f64_of(number(in, 8)))));
+            double x = f64_of(number(in, 8));
+            answer_of(in, ROOT);
+            count(ROOT, is_f64(in, sillurwy_root(x)));
         } else if (function == 2) {
-            count(NARROW, is_f32(in, sillurwy_narrow(f64_of(number(in, 8)))));
+            double x = f64_of(number(in, 8));
+            answer_of(in, NARROW);
+            count(NARROW, is_f32(in, sillurwy_narrow(x)));
         } else if (function == 3) {
             float re = f32_of((uint32_t)number(in, 4));
             float im = f32_of((uint32_t)number(in, 4));
+            answer_of(in, NORM32);
             count(NORM32, is_f32(in, sillurwy_norm32(re, im)));
         } else if (function == 4) {
             double re = f64_of(number(in, 8));
             double im = f64_of(number(in, 8));
+            answer_of(in, NORM64);
             count(NORM64, is_f64(in, sillurwy_norm64(re, im)));
         } else {
             fail("has a function that is not known", in->name);
@@ -520,8 +558,13 @@ static void replay_floats(struct reader *in)
 
 int main(int words, char **word)
 {
-    if (words != 4) {
-        fprintf(stderr, "usage: replay LAYOUT ACQUIRE FLOATS\n");
+    if (words == 5) {
+        for (damaged = 0; damaged < FUNCTIONS && strcmp(names[damaged], word[4]) != 0;) {
+            damaged++;
+        }
+    }
+    if (words != 4 && (words != 5 || damaged == FUNCTIONS)) {
+        fprintf(stderr, "usage: replay LAYOUT ACQUIRE FLOATS [NAME]\n");
         return 2;
     }
     struct reader layout = opened(word[1]);
