@@ -130,7 +130,8 @@ uint8_t sillurwy_continual_list(uint8_t mode, const uint8_t *kinds, size_t kinds
 
 /* ---- Acquisition. Floats are real and imaginary part in turn. ---- */
 
-/* The samples, in pairs, that the guard search needs to see at least `symbols` symbols.
+/* The samples, in pairs, that the guard search needs to try each mode and guard with at least
+ * `symbols` symbols.
  *   modes, guards  lists of codes: 1, 2, 3 and 4, 8, 16, 32
  *   symbols        at most SILLURWY_MOST_SYMBOLS
  *   samples        the answer

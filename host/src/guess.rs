@@ -26,7 +26,8 @@ pub struct ModeGuess {
     pub im: f64,
 }
 
-/// The samples, in pairs, that the guard search needs to see at least `symbols` symbols.
+/// The samples, in pairs, that the guard search needs to try each mode and guard with at least
+/// `symbols` symbols.
 ///
 /// Refused: [`BadSymbols`](Refusal::BadSymbols) above [`MOST_SYMBOLS`].
 ///

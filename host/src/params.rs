@@ -95,7 +95,6 @@ impl Mode {
 /// ```
 #[derive(Debug, Clone, Copy, PartialEq, Eq, Hash)]
 #[repr(u8)]
-#[allow(non_camel_case_types)]
 pub enum GuardInterval {
     /// 1/4.
     G1_4 = 4,
