@@ -1,23 +1,23 @@
 -- `guess::are_guards` meets its contract: the rest of the list decides the test.
 -- Assumes nothing.
-use Prim.Native.Nat.{_-_, _≤_}
-use mathlib.Core.Path.{_≡_, refl, sym, ap, _∙_}
+use Prim.Native.Nat.{_-_}
+use mathlib.Core.Path.{sym, ap, _∙_}
 use native.Mathlib.Omega.{arith}
 use borrow.Author.Needs.{needs}
-use lib.ListN.{length, drop, drop-of-length-le}
-use Rattle.lists.specs.Tests.{allIn, allIn-stop, allIn-pass}
+use lib.ListN.{length}
+use Rattle.lists.specs.Tests.{Walked, walk-begins, walk-stops, walk-goes-on, walk-ends}
 use Rattle.guess.specs.Samples.{knownGuard, isGuard}
 use Rattle.guess.proofs.are_guards.Statement.{statement}
 use Rattle.guess.proofs.are_guards.Tie as tie
 
 abbrev Inv-loop : tie.InvT-loop
-Inv-loop guards i₀ i = (i ≤ length guards) × (allIn isGuard guards ≡ allIn isGuard (drop i guards))
+Inv-loop guards i₀ i = Walked isGuard guards i
 
 abbrev μ-loop : tie.MeasureT-loop
 μ-loop guards i₀ i = length guards - i
 
 loop-holds : tie.Need-loop-holds Inv-loop μ-loop
-loop-holds c = (search needs, refl)
+loop-holds c = walk-begins _ _
 
 shared-slice-read-from-denominator : tie.Need-shared-slice-read-from-denominator Inv-loop μ-loop
 shared-slice-read-from-denominator c = search needs
@@ -38,7 +38,7 @@ returns : tie.Need-returns Inv-loop μ-loop
 returns c =
     let t = c .before .before .before .before in
     let unknown = ap knownGuard (sym (c .before .before .from-denominator .ensures) ∙ c .enum-told2 .given .1) in
-    sym (t .before .loop .inv .1 ∙ allIn-stop isGuard _ _ (t .loop-test .taken) unknown)
+    walk-stops isGuard _ (t .before .loop .inv) (t .loop-test .taken) unknown
 
 add-i : tie.Need-add-i Inv-loop μ-loop
 add-i c = search needs
@@ -50,10 +50,10 @@ loop-again : tie.Need-loop-again Inv-loop μ-loop
 loop-again c =
     let t = c .before .before .before .before in
     let known = ap knownGuard (sym (c .before .before .from-denominator .ensures) ∙ c .enum-told .given .1) in
-    (omega arith, t .before .loop .inv .1 ∙ allIn-pass isGuard _ _ (t .loop-test .taken) known)
+    walk-goes-on isGuard _ (t .before .loop .inv) (t .loop-test .taken) known
 
 returns-2 : tie.Need-returns-2 Inv-loop μ-loop
-returns-2 c = sym (c .before .loop .inv .1 ∙ ap (allIn isGuard) (drop-of-length-le _ (c .loop-test .left)))
+returns-2 c = walk-ends isGuard _ (c .before .loop .inv) (c .loop-test .left)
 
 pub are-guards-spec : {M : Type 1} → statement M
 are-guards-spec =

@@ -1,7 +1,7 @@
 -- `host::sillurwy_detect_mode` meets its contract: the search's answer, taken apart: what is neither a guess nor a refusal is nothing.
 -- Assumes nothing.
 use Prim.Native.Nat.{ℕ}
-use mathlib.Core.Path.{_≡_, refl, sym, ap, _∙_, subst}
+use mathlib.Core.Path.{_≡_, refl, sym, ap, _∙_}
 use lib.Ieee.{Float}
 use Rattle.guess.specs.declared.GuardSearch.{GuardSearch}
 use Rattle.host.specs.Host.{GuessLent, searchCode, searchFound, ofGuess}
