@@ -3,23 +3,23 @@
 -- gain is 1, or at most 256 on whole-number parts from -32,768 to 32,768 (`Allowed`); without a gain this holds for all spectra and samples,
 -- NaNs and infinities too. It is stated over the very definitions that the operations' contracts cite.
 -- Assumes nothing.
-use Prim.Native.Nat.{ℕ, _+_, _*_, _%_, _≤_, _<_}
-use native.Mathlib.Omega.{arith}
+use Prim.Native.Nat.{ℕ, _+_, _%_, _≤_, _<_}
+use borrow.Author.Tests.{leb-true}
 use mathlib.Core.Bool.{Bool, true, false, _&&_, cond}
 use mathlib.Core.List.{List}
 use mathlib.Core.Path.{_≡_, refl, sym, ap, _∙_, subst}
-use lib.Dec.{T, eqb, leb, eqb→eq, leb→le, lit<}
+use lib.Dec.{T, eqb, leb, eqb→eq, lit<}
 use lib.IntN.{ℤ, pos, natAbs, _+ℤ_}
-use lib.ListN.{getD, length}
+use lib.ListN.{length}
 use lib.Ieee.{Float, nan}
-use Rattle.lists.specs.Refusals.{unless}
+use Rattle.lists.specs.Refusals.{passed}
 use Rattle.lists.specs.Select.{getD-upTo}
 use Rattle.params.specs.declared.Mode.{Mode}
 use Rattle.params.specs.declared.Mode.the-variants.{M1, M2, M3}
-use Rattle.params.specs.declared.ModeNumber.{ModeNumber}
-use Rattle.params.specs.declared.ModeNumber.the-variants.{Known, Unknown}
+use Rattle.params.specs.declared.ModeNumber.the-variants.{Known}
 use Rattle.params.specs.Params.{fftSize, totalCarriers}
-use Rattle.spectra.specs.Spectra.{spectraIn, spectraCode, binPairs}
+use Rattle.spectra.specs.Spectra.{spectraIn, binPairs}
+use Rattle.spectra.specs.Accepted.{accepted as spectra-accepted}
 use Rattle.spectra.specs.Changes.{Change, Changed, Allowed}
 use Rattle.ratio.specs.Ratio.{ratios, ratioOf}
 use Rattle.ratio.specs.Unchanged.{changed-ratios, changed-ratio-at}
@@ -28,7 +28,7 @@ use Rattle.shift.specs.declared.ShiftAnswer.the-variants.{Shift, Refused}
 use Rattle.shift.specs.Shift.{Winner, movedBin, pattern, scoreOf, bestShift, shiftCode, shiftLeaves, shiftAnswer}
 use Rattle.shift.specs.MovedBins.{moved-below}
 use Rattle.shift.specs.Moved.{InRange, BeatsAll, MovedRound, ratios-no-minus, same-winner, moved-winner}
-use Rattle.lists.specs.Tests.{allIn}
+use Rattle.lists.specs.Tests.{allIn, both-right}
 use Rattle.guess.specs.Samples.{isMode, isGuard}
 use Rattle.guess.specs.Guess.{pairsIn, guessed, guessCode, guessAnswer}
 use Rattle.guess.specs.Changed.{Taken, AllowedGain, louder, changed-guess}
@@ -83,15 +83,6 @@ pub record Demand3 (c : Change) (s : ℤ) : Type 0 where
 
 -- ==== proofs
 
--- accepted spectra are at most 1,024
-first-passes : (a b : Bool) (later : ℕ) → unless (a && b) 5 later ≡ 0 → T b
-first-passes true true later e = tt
-first-passes true false later e = absurd (let z : 5 ≡ 0 = e in omega arith)
-first-passes false b later e = absurd (let z : 5 ≡ 0 = e in omega arith)
-
-few : (len floats later : ℕ) → spectraCode len floats later ≡ 0 → spectraIn len floats ≤ 1024
-few len floats later e = leb→le (spectraIn len floats) 1024 (first-passes (eqb (floats % (2 * len)) 0) (leb (spectraIn len floats) 1024) _ e)
-
 -- what an accepted call gives, and nothing else, may rest on its being accepted
 accepted : {A : Type 0} (code : ℕ) (x y z : A) → (code ≡ 0 → x ≡ y) → cond (eqb code 0) x z ≡ cond (eqb code 0) y z
 accepted code x y z h = go (eqb code 0) (eqb→eq code 0)
@@ -107,7 +98,7 @@ module _ (c : Change) (mode : Mode) (xs ys old : List Float) (A : Allowed c (tot
 
   same-ratios : kindsCode (Known mode) (length xs) (length old) ≡ 0 → ratios (totalCarriers mode) ys ≡ ratios (totalCarriers mode) xs
   unfolding kindsCode
-  same-ratios e = changed-ratios c (totalCarriers mode) xs ys (few (totalCarriers mode) (length xs) _ e) A h
+  same-ratios e = changed-ratios c (totalCarriers mode) xs ys (spectra-accepted (totalCarriers mode) (length xs) _ e .few) A h
 
   -- whatever is made of the ratios of an accepted call
   by-ratios : {B : Type 0} (f : List Float → B) (z : B)
@@ -150,7 +141,7 @@ module _ (c : Change) (mode : Mode) (bound : ℕ) (s : ℤ) (xs ys old : List Fl
 
   few-spectra : shiftCode (Known mode) (length xs) (length old) bound ≡ 0 → spectraIn (fftSize mode) (length xs) ≤ 1024
   unfolding shiftCode
-  few-spectra e = few (fftSize mode) (length xs) _ e
+  few-spectra e = spectra-accepted (fftSize mode) (length xs) _ e .few
 
   moved-ratios : spectraIn (fftSize mode) (length xs) ≤ 1024 → MovedRound (fftSize mode) s (ratios (fftSize mode) xs) (ratios (fftSize mode) ys)
   unfolding ratios
@@ -225,23 +216,16 @@ phase-kept c mode kinds xs ys A h =
     }
 
 -- ---- the guess
-unless-passes : (a : Bool) (n later : ℕ) → (n ≡ 0 → ⊥) → unless a n later ≡ 0 → (a ≡ true) × (later ≡ 0)
-unless-passes true n later h e = (refl, e)
-unless-passes false n later h e = absurd (h e)
-
-both-true : (a b : Bool) → (a && b) ≡ true → T b
-both-true true true e = tt
-both-true true false e = subst T (sym e) tt
-both-true false b e = absurd (subst T (sym e) tt)
-
 -- what an accepted call tells of its lists and lengths
 codes : (modes guards : List ℕ) (floats scratch : ℕ) → guessCode modes guards floats scratch ≡ 0 → (allIn isMode modes ≡ true) × (allIn isGuard guards ≡ true) × (pairsIn floats ≤ 1048576)
 unfolding guessCode
 codes modes guards floats scratch e =
-    let a = unless-passes (allIn isMode modes) 1 _ (λ z. let q : 1 ≡ 0 = z in omega arith) e in
-    let b = unless-passes (allIn isGuard guards) 9 _ (λ z. let q : 9 ≡ 0 = z in omega arith) (a .1) in
-    let d = unless-passes (eqb (floats % 2) 0 && leb (pairsIn floats) 1048576) 5 _ (λ z. let q : 5 ≡ 0 = z in omega arith) (b .1) in
-    (a .0, b .0, leb→le (pairsIn floats) 1048576 (both-true (eqb (floats % 2) 0) (leb (pairsIn floats) 1048576) (d .0)))
+    let a = passed (allIn isMode modes) 1 _ (lit< tt) e in
+    let b = passed (allIn isGuard guards) 9 _ (lit< tt) (a .rest) in
+    let even = eqb (floats % 2) 0 in
+    let few = leb (pairsIn floats) 1048576 in
+    let d = passed (even && few) 5 _ (lit< tt) (b .rest) in
+    (a .first, b .first, leb-true _ _ (both-right even few (d .first)))
 
 guess-kept : (turns : Bool) (gain : ℕ) (modes guards : List ℕ) (scratch : ℕ) (xs ys : List Float) → AllowedGain gain xs → Taken turns gain xs ys → GuessKept gain modes guards scratch xs ys
 unfolding guessAnswer

@@ -119,7 +119,7 @@ impl C64 {
     {
         C64 {
             re: self.re,
-            im: -self.im,
+            im: -self.im, // a zero's sign too
         }
     }
 

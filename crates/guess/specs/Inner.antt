@@ -1,7 +1,7 @@
 -- The words of the contracts inside this crate.
 -- Definitions only.
 use Prim.Native.Nat.{ℕ, _+_, _*_, _≤_, _<_}
-use mathlib.Core.Bool.{true, cond}
+use mathlib.Core.Bool.{Bool, true, cond}
 use mathlib.Core.List.{List, map}
 use mathlib.Core.Path.{_≡_}
 use lib.ListN.{getD, length}
@@ -11,12 +11,19 @@ use Rattle.ieee.specs.Sums.{total}
 use Rattle.lists.specs.Tests.{allIn}
 use Rattle.complex.specs.Complex.{pair, norm64}
 use Rattle.guess.specs.declared.ModeGuess.{ModeGuess}
+use Rattle.guess.specs.declared.Codes.{Codes}
+use Rattle.guess.specs.declared.Codes.the-variants.{Modes, Guards}
 use Rattle.guess.specs.declared.Window.{Window}
 use Rattle.guess.specs.declared.Best.{Best}
 use Rattle.guess.specs.declared.GuardSearch.{GuardSearch}
 use Rattle.guess.specs.declared.GuardSearch.the-variants.{Found, Nothing}
-use Rattle.guess.specs.Samples.{isGuard, fftOf}
+use Rattle.guess.specs.Samples.{isMode, isGuard, fftOf}
 use Rattle.guess.specs.Guess.{pairsIn, lagsIn, realPrefixes, imaginaryPrefixes, energyPrefixes, beats, triedGuard}
+
+-- ---- a mode's code, or a guard's
+abbrev pub isCode : Codes → ℕ → Bool
+isCode Modes n = isMode n
+isCode Guards n = isGuard n
 
 -- ---- guards and symbols whose samples are few enough
 pub record Counted (guards : List ℕ) (symbols : ℕ) : Type 0 where

@@ -8,9 +8,9 @@ ghost use lib.Ieee.{binary64};
 ghost use Rattle.ieee.specs.Constants.{plusZero};
 ghost use Rattle.lists.specs.Lists.{upTo};
 ghost use Rattle.lists.specs.Tests.{allIn};
-ghost use Rattle.guess.specs.Samples.{isMode, isGuard, fftOf, neededBy, greatest, samplesAnswer};
+ghost use Rattle.guess.specs.Samples.{fftOf, neededBy, greatest, samplesAnswer};
 ghost use Rattle.guess.specs.Guess.{starts, triedMode, Searched};
-ghost use Rattle.guess.specs.Inner.{Counted, Holds, Writable, Windowed, Inside, searchOf, guessOf, betterOf, Tried, Triable, AllTriable};
+ghost use Rattle.guess.specs.Inner.{isCode, Counted, Holds, Writable, Windowed, Inside, searchOf, guessOf, betterOf, Tried, Triable, AllTriable};
 use complex::C64;
 use params::GuardDenominator;
 use params::GuardInterval;
@@ -52,31 +52,39 @@ pub struct Best {
     pub guess: ModeGuess,
 }
 
-const HALF: f64 = 0.5;
-
-// Whether each number is a mode's.
-fn are_modes(modes: &[u8]) -> bool
-    ensures { λ r. ⌜ r ≡ allIn isMode (now (modes .entry)) ⌝ }
-{
-    let mut i: usize = 0;
-    while i < modes.len() {
-        let ModeNumber::Known(_) = Mode::from_number(modes[i]) else {
-            return false;
-        };
-        i += 1;
-    }
-    true
+// What the codes of a list stand for: modes, or guards' denominators.
+pub enum Codes {
+    Modes,
+    Guards,
 }
 
-// Whether each number is a guard's denominator.
-fn are_guards(guards: &[u8]) -> bool
-    ensures { λ r. ⌜ r ≡ allIn isGuard (now (guards .entry)) ⌝ }
+const HALF: f64 = 0.5;
+
+// Whether a number is one of the codes.
+fn is_code(codes: Codes, n: u8) -> bool
+    ensures { λ r. ⌜ r ≡ isCode codes n ⌝ }
+{
+    match codes {
+        Codes::Modes => match Mode::from_number(n) {
+            ModeNumber::Known(_) => true,
+            ModeNumber::Unknown => false,
+        },
+        Codes::Guards => match GuardInterval::from_denominator(n as usize) {
+            GuardDenominator::Known(_) => true,
+            GuardDenominator::Unknown => false,
+        },
+    }
+}
+
+// Whether each number of a list is.
+fn are_codes(codes: Codes, list: &[u8]) -> bool
+    ensures { λ r. ⌜ r ≡ allIn (isCode codes) (now (list .entry)) ⌝ }
 {
     let mut i: usize = 0;
-    while i < guards.len() {
-        let GuardDenominator::Known(_) = GuardInterval::from_denominator(guards[i] as usize) else {
+    while i < list.len() {
+        if !is_code(codes, list[i]) {
             return false;
-        };
+        }
         i += 1;
     }
     true
@@ -116,10 +124,10 @@ fn mode_needs(mode: u8, guards: &[u8], symbols: usize) -> usize
 pub fn samples_needed(modes: &[u8], guards: &[u8], symbols: usize) -> SamplesNeeded
     ensures { λ r. ⌜ r ≡ samplesAnswer (now (modes .entry)) (now (guards .entry)) symbols ⌝ }
 {
-    if !are_modes(modes) {
+    if !are_codes(Codes::Modes, modes) {
         return SamplesNeeded::Refused(1);
     }
-    if !are_guards(guards) {
+    if !are_codes(Codes::Guards, guards) {
         return SamplesNeeded::Refused(9);
     }
     if symbols > 64 {
@@ -278,10 +286,10 @@ fn clear(scratch: &mut [f64])
 pub fn detect_mode(samples: &[f32], modes: &[u8], guards: &[u8], scratch: &mut [f64]) -> GuardSearch
     ensures { λ r. ⌜ Searched (now (samples .entry)) (now (modes .entry)) (now (guards .entry)) (now (scratch .entry)) r (now (scratch .exit)) ⌝ }
 {
-    if !are_modes(modes) {
+    if !are_codes(Codes::Modes, modes) {
         return GuardSearch::Refused(1);
     }
-    if !are_guards(guards) {
+    if !are_codes(Codes::Guards, guards) {
         return GuardSearch::Refused(9);
     }
     if samples.len() % 2 != 0 {

@@ -120,23 +120,22 @@ pub extern "C" fn sillurwy_detect_mode(
 ) -> u8
     ensures { λ r. ⌜ GuessLent (guessAnswer (now (samples .entry)) (now (modes .entry)) (now (guards .entry)) (length (now (scratch .entry)))) (now (found .entry)) (now (mode .entry)) (now (guard .entry)) (now (offset .entry)) (now (metric .entry)) (now (re .entry)) (now (im .entry)) r (now (found .exit)) (now (mode .exit)) (now (guard .exit)) (now (offset .exit)) (now (metric .exit)) (now (re .exit)) (now (im .exit)) × now (scratch .exit) ≡ scratchLeaves (length (now (samples .entry))) (now (modes .entry)) (now (guards .entry)) (now (scratch .entry)) ⌝ }
 {
-    match guess::detect_mode(samples, modes, guards, scratch) {
-        GuardSearch::Found(g) => {
-            *found = 1;
-            *mode = g.mode;
-            *guard = g.guard;
-            *offset = g.offset;
-            *metric = g.metric;
-            *re = g.re;
-            *im = g.im;
-            0
-        }
-        GuardSearch::Nothing => {
+    let search = guess::detect_mode(samples, modes, guards, scratch);
+    let GuardSearch::Found(g) = search else {
+        let GuardSearch::Refused(code) = search else {
             *found = 0;
-            0
-        }
-        GuardSearch::Refused(code) => code,
-    }
+            return 0;
+        };
+        return code;
+    };
+    *found = 1;
+    *mode = g.mode;
+    *guard = g.guard;
+    *offset = g.offset;
+    *metric = g.metric;
+    *re = g.re;
+    *im = g.im;
+    0
 }
 
 // The soft value of the TMCC carriers between two spectra.
@@ -228,16 +227,13 @@ pub extern "C" fn sillurwy_detect_sp_phase(
     *counts = votes;
     *lead = answer.lead;
     let p = answer.phase;
-    match p {
-        PilotPhase::Phase(number, part) => {
-            *found = 1;
-            *phase = number;
-            *share = part;
-        }
-        PilotPhase::NoScatteredPilots => {
-            *found = 0;
-        }
-    }
+    let PilotPhase::Phase(number, part) = p else {
+        *found = 0;
+        return 0;
+    };
+    *found = 1;
+    *phase = number;
+    *share = part;
     0
 }
 

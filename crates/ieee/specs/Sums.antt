@@ -38,6 +38,23 @@ Each R [] (y ∷ ys) = ⊥
 Each R (x ∷ xs) [] = ⊥
 Each R (x ∷ xs) (y ∷ ys) = R x y × Each R xs ys
 
+-- a function that takes one relation to another does so value for value
+pub each-map : {A B : Type 0} (R : A → A → Type 0) (S : B → B → Type 0) (g : A → B) → ((x y : A) → R x y → S (g x) (g y)) → (xs ys : List A)
+    → Each R xs ys → Each S (map g xs) (map g ys)
+unfolding Each
+each-map R S g h [] [] e = tt
+each-map R S g h [] (y ∷ ys) e = absurd e
+each-map R S g h (x ∷ xs) [] e = absurd e
+each-map R S g h (x ∷ xs) (y ∷ ys) e = (h x y (e .0), each-map R S g h xs ys (e .1))
+
+-- and what is equal value for value is equal
+pub each-equal : {A : Type 0} (xs ys : List A) → Each (λ x y. x ≡ y) xs ys → xs ≡ ys
+unfolding Each
+each-equal [] [] e = refl
+each-equal [] (y ∷ ys) e = absurd e
+each-equal (x ∷ xs) [] e = absurd e
+each-equal (x ∷ xs) (y ∷ ys) e = λ i. e .0 i ∷ each-equal xs ys (e .1) i
+
 -- ---- one more term, with a others to come
 so-far : (m a n : ℕ) → m + a ≤ n → m ≤ n
 so-far m a n h = omega arith

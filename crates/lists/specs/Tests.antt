@@ -9,7 +9,7 @@ use native.Mathlib.Nat.{le-of-suc-le-suc, not-suc-le-zero}
 use native.Mathlib.Decide.{decLt}
 use native.Mathlib.Numerals.{add-one}
 use lib.Dec.{eqb}
-use lib.ListN.{length, getD, drop}
+use lib.ListN.{length, getD, drop, drop-of-length-le}
 use lib.Seq.{drop-cons}
 
 -- whether x stands in the list
@@ -59,6 +59,25 @@ allIn-stop f t i h e = rw (drop-cons t i 0 h, e)
 
 pub allIn-pass : (f : ℕ → Bool) (t : List ℕ) (i : ℕ) → i < length t → f (getD t i 0) ≡ true → allIn f (drop i t) ≡ allIn f (drop (i + 1) t)
 allIn-pass f t i h e = rw (drop-cons t i 0 h, e, add-one)
+
+-- so the walk at i: those before i passed, and the rest decides
+pub record Walked (f : ℕ → Bool) (t : List ℕ) (i : ℕ) : Type 0 where
+  pub inside : i ≤ length t
+  pub rest : allIn f t ≡ allIn f (drop i t)
+
+module _ (f : ℕ → Bool) (t : List ℕ) where
+  pub walk-begins : Walked f t 0
+  walk-begins = record { inside = omega arith; rest = refl }
+
+  module _ {i : ℕ} (w : Walked f t i) where
+    pub walk-stops : i < length t → f (getD t i 0) ≡ false → false ≡ allIn f t
+    walk-stops h e = sym (w .rest ∙ allIn-stop f t i h e)
+
+    pub walk-goes-on : i < length t → f (getD t i 0) ≡ true → Walked f t (i + 1)
+    walk-goes-on h e = record { inside = omega arith; rest = w .rest ∙ allIn-pass f t i h e }
+
+    pub walk-ends : length t ≤ i → true ≡ allIn f t
+    walk-ends h = sym (w .rest ∙ ap (allIn f) (drop-of-length-le t h))
 
 -- two functions whose values below n antt finds alike agree at each number below n
 abbrev pub values : {A : Type 0} → (ℕ → A) → ℕ → List A

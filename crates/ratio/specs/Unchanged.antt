@@ -9,12 +9,12 @@ use mathlib.Core.Path.{_≡_, refl, sym, ap, _∙_}
 use native.Mathlib.Nat.{add-zero}
 use native.Mathlib.Omega.{arith}
 use lib.Dec.{T}
-use lib.ListN.{length}
+use lib.ListN.{length, length-map}
 use lib.Ieee.{Float, binary32, binary64, unlike, lt, div}
 use Rattle.ieee.specs.Constants.{plusZero}
 use Rattle.ieee.specs.Zeros.{canon}
 use Rattle.ieee.specs.Levels.{Level, Scaled}
-use Rattle.ieee.specs.Sums.{total, Each, total-alike}
+use Rattle.ieee.specs.Sums.{total, Each, each-map, each-equal, total-alike}
 use Rattle.lists.specs.Select.{upTo-same}
 use Rattle.complex.specs.Complex.{Pair, pair, product, conjugate, squaredSize, norm32}
 use Rattle.complex.specs.Turns.{turned, negated, Alike, turned-product, negated-product, square-re, square-im, alike-size, norm32-same}
@@ -72,25 +72,17 @@ signed-steps g (x ∷ xs) = signed-from (g zero) (λ j. g (suc j)) x xs
 
 -- so the squares' real parts and the sizes are equal, and the squares' imaginary parts but for the sign of a zero
 sizes-same : (ps qs : List Pair) → Each Signed ps qs → map sizeOf ps ≡ map sizeOf qs
-unfolding Each
-sizes-same [] [] h = refl
-sizes-same [] (q ∷ qs) h = absurd h
-sizes-same (p ∷ ps) [] h = absurd h
-sizes-same (p ∷ ps) (q ∷ qs) h = λ i. alike-size binary32 (h .0 .flipped) p q (h .0 .alike) i ∷ sizes-same ps qs (h .1) i
+sizes-same ps qs h = each-equal _ _ (each-map Signed (λ x y. x ≡ y) sizeOf (λ p q s. alike-size binary32 (s .flipped) p q (s .alike)) ps qs h)
 
 reals-same : (ps qs : List Pair) → Each Signed ps qs → reals (map squareOf ps) ≡ reals (map squareOf qs)
-unfolding Each
-reals-same [] [] h = refl
-reals-same [] (q ∷ qs) h = absurd h
-reals-same (p ∷ ps) [] h = absurd h
-reals-same (p ∷ ps) (q ∷ qs) h = λ i. square-re binary32 (h .0 .flipped) p q (h .0 .alike) i ∷ reals-same ps qs (h .1) i
+reals-same ps qs h =
+    let squares = each-map Signed (λ x y. x .re ≡ y .re) squareOf (λ p q s. square-re binary32 (s .flipped) p q (s .alike)) ps qs h in
+    each-equal _ _ (each-map (λ x y. x .re ≡ y .re) (λ x y. x ≡ y) (λ (x : Pair). x .re) (λ x y e. e) _ _ squares)
 
 imaginaries-alike : (ps qs : List Pair) → Each Signed ps qs → Each (λ x y. canon x ≡ canon y) (imaginaries (map squareOf ps)) (imaginaries (map squareOf qs))
-unfolding Each
-imaginaries-alike [] [] h = tt
-imaginaries-alike [] (q ∷ qs) h = absurd h
-imaginaries-alike (p ∷ ps) [] h = absurd h
-imaginaries-alike (p ∷ ps) (q ∷ qs) h = (square-im binary32 (h .0 .flipped) p q (h .0 .alike), imaginaries-alike ps qs (h .1))
+imaginaries-alike ps qs h =
+    let squares = each-map Signed (λ x y. canon (x .im) ≡ canon (y .im)) squareOf (λ p q s. square-im binary32 (s .flipped) p q (s .alike)) ps qs h in
+    each-map (λ x y. canon (x .im) ≡ canon (y .im)) (λ x y. canon x ≡ canon y) (λ (x : Pair). x .im) (λ x y e. e) _ _ squares
 
 -- the sums have the same squared size
 norms-same : (ps qs : List Pair) → Each Signed ps qs → norm32 (correlationOf ps) ≡ norm32 (correlationOf qs)
@@ -124,18 +116,10 @@ module _ (k : ℕ) (K : k ≤ most) where
   gained-steps (x ∷ xs) g = gained-from x xs (g .0) (g .1)
 
   gained-squares : (ps qs : List Pair) → Each (BothScaled stepLevel k) ps qs → Each (BothScaled termLevel k) (map squareOf ps) (map squareOf qs)
-  unfolding Each
-  gained-squares [] [] h = tt
-  gained-squares [] (q ∷ qs) h = absurd h
-  gained-squares (p ∷ ps) [] h = absurd h
-  gained-squares (p ∷ ps) (q ∷ qs) h = (square-gain k K p q (h .0), gained-squares ps qs (h .1))
+  gained-squares = each-map (BothScaled stepLevel k) (BothScaled termLevel k) squareOf (square-gain k K)
 
   gained-sizes : (ps qs : List Pair) → Each (BothScaled stepLevel k) ps qs → Each (Scaled termLevel k) (map sizeOf ps) (map sizeOf qs)
-  unfolding Each
-  gained-sizes [] [] h = tt
-  gained-sizes [] (q ∷ qs) h = absurd h
-  gained-sizes (p ∷ ps) [] h = absurd h
-  gained-sizes (p ∷ ps) (q ∷ qs) h = (size-gain k K p q (h .0), gained-sizes ps qs (h .1))
+  gained-sizes = each-map (BothScaled stepLevel k) (Scaled termLevel k) sizeOf (size-gain k K)
 
   length-from : (y : Pair) (xs : List Pair) → length (stepsFrom y xs) ≡ length xs
   unfolding stepsFrom
@@ -147,18 +131,14 @@ module _ (k : ℕ) (K : k ≤ most) where
   few-steps [] n = zero-le
   few-steps (x ∷ xs) n = let e = length-from x xs in omega arith
 
-  length-map : {A : Type 0} (f : Pair → A) (xs : List Pair) → length (map f xs) ≡ length xs
-  length-map f [] = refl
-  length-map f (x ∷ xs) = ap suc (length-map f xs)
-
   pub gained-ratio : (xs : List Pair) → length xs ≤ 1024 → WholePairs xs → ratioOf (map (amplified k) xs) ≡ ratioOf xs
   gained-ratio xs n g =
       let ps = steps xs in
       let qs = steps (map (amplified k) xs) in
       let h = gained-steps xs g in
       let N = few-steps xs n in
-      let a = bin-sum-gain k K (map squareOf ps) (map squareOf qs) (rw (length-map squareOf ps) N) (gained-squares ps qs h) in
-      let b = bin-energy-gain k K (map sizeOf ps) (map sizeOf qs) (rw (length-map sizeOf ps) N) (gained-sizes ps qs h) in
+      let a = bin-sum-gain k K (map squareOf ps) (map squareOf qs) (rw length-map N) (gained-squares ps qs h) in
+      let b = bin-energy-gain k K (map sizeOf ps) (map sizeOf qs) (rw length-map N) (gained-sizes ps qs h) in
       ratio-is (map (amplified k) xs)
       ∙ (λ i. cond (sym (above-zero-gain binary32 binLevel k (energyOf ps) (energyOf qs) b) i) (sym (ratio-gain k K (correlationOf ps) (correlationOf qs) (energyOf ps) (energyOf qs) a b) i) (plusZero binary32))
       ∙ sym (ratio-is xs)

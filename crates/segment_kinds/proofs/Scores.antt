@@ -3,10 +3,10 @@
 use Prim.Native.Nat.{ℕ, suc, suc-le-suc, _+_, _*_, _-_, _≤_, _<_}
 use mathlib.Core.Bool.{Bool, true, false, cond}
 use mathlib.Core.List.{List, [], _∷_, _++_, map, map-append}
-use mathlib.Core.Path.{_≡_, refl, sym, ap, _∙_}
+use mathlib.Core.Path.{_≡_, refl, ap, _∙_}
 use native.Mathlib.Omega.{arith}
 use lib.IntN.{pos}
-use lib.ListN.{length, getD, take, drop, length-take, length-drop}
+use lib.ListN.{length, getD, take, drop, length-drop}
 use lib.Seq.{length-take-le, getD-take, getD-drop}
 use lib.Ieee.{Float, nan, binary32, div, ofInt}
 use Rattle.ieee.specs.Constants.{minusZero}
@@ -19,23 +19,13 @@ use Rattle.params.specs.Params.{carriersPerSegment}
 use Rattle.params.specs.Laws.{sized}
 use Rattle.tables.specs.declared.Positions.{Positions}
 use Rattle.tables.specs.Places.{Listed, tmccOf, ac1Of, ac2Of}
+use Rattle.tables.specs.Fronts.{front}
 use Rattle.tables.specs.Rule.{tmcc-below, ac2-below, tmcc-short, ac2-short}
 use Rattle.ofdm.specs.Band.{placeOf}
 use Rattle.ofdm.specs.Laws.{place-below, segment-ends}
 use Rattle.segment_kinds.specs.SegmentKinds.{telling, ratioAtPlace, kindPlaces, kindScore}
 use Rattle.segment_kinds.specs.Inner.{kept, ratiosAt, Inside, meanOf, Scorable, Banded}
 use Rattle.segment_kinds.proofs.Means.{first-inside}
-
-abbrev front : Positions → List ℕ
-front r = take (r .count) (r .places)
-
--- a row's front, lent
-module _ (r : Positions) (xs : List ℕ) (l : Listed r xs) where
-  pub front-length : r .count ≡ length (front r)
-  front-length = l .count ∙ sym (ap length (l .places))
-
-  pub front-room : r .count ≤ length (r .places)
-  front-room = omega (arith, front-length, length-take (r .count) (r .places))
 
 -- two readings f and g of the ratios give the same at what is kept of the places
 abbrev Alike : (ℕ → Bool) → (ℕ → Float) → (ℕ → Float) → List ℕ → Type 0

@@ -18,6 +18,7 @@ use Rattle.params.specs.Params.{carriersPerSegment, totalCarriers, fftSize}
 use Rattle.params.specs.Laws.{sized}
 use Rattle.tables.specs.declared.Positions.{Positions}
 use Rattle.tables.specs.Places.{Listed, ac1Of}
+use Rattle.tables.specs.Fronts.{front-length}
 use Rattle.tables.specs.Rule.{ac1-below}
 use Rattle.ofdm.specs.Band.{placeOf, binOf}
 use Rattle.ofdm.specs.Laws.{carrier-below}
@@ -67,7 +68,7 @@ module _ (mode : Mode) (seg : ℕ) (h : seg < 13) (r : Positions) (l : Listed r 
         few = omega (arith, l .count, row-few mode seg h);
         known = k;
         inside = inside;
-        size = simp length-map (ap length (l .places) ∙ sym (l .count));
+        size = simp length-map (sym (front-length l));
       }
     where
       inside : (i : ℕ) → i < r .count → getD (r .places) i 0 < carriersPerSegment mode

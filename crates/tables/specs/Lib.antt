@@ -1,4 +1,5 @@
 pub mod Rows
 pub mod Places
+pub mod Fronts
 pub mod Rule
 pub mod Randomize

@@ -1,13 +1,13 @@
 -- What `soft_value` keeps: the terms of the segments so far are added up.
 -- Assumes nothing.
-use Prim.Native.Nat.{ℕ, suc, _+_, _*_, _≤_, _<_}
+use Prim.Native.Nat.{ℕ, _+_, _*_, _≤_, _<_}
 use mathlib.Core.Bool.{Bool, true, false, cond}
-use mathlib.Core.List.{List, [], _∷_, _++_, append-nil, map, map-append, map-map}
-use mathlib.Core.Path.{_≡_, refl, sym, ap, _∙_}
+use mathlib.Core.List.{List, [], map, map-append, map-map}
+use mathlib.Core.Path.{_≡_, refl, _∙_}
 use native.Mathlib.Numerals.{add-one}
 use native.Mathlib.Omega.{arith}
 use lib.Ieee.{Float, binary32}
-use lib.ListN.{length, getD, take, length-take}
+use lib.ListN.{getD}
 use Rattle.ieee.specs.Constants.{minusZero}
 use Rattle.ieee.specs.Sums.{total, total-append}
 use Rattle.lists.specs.Lists.{range, joined}
@@ -18,20 +18,12 @@ use Rattle.params.specs.Params.{carriersPerSegment, totalCarriers, kindFrom}
 use Rattle.params.specs.Laws.{sized}
 use Rattle.tables.specs.declared.Positions.{Positions}
 use Rattle.tables.specs.Places.{Listed, tmccOf}
+use Rattle.tables.specs.Fronts.{front}
 use Rattle.tables.specs.Rule.{tmcc-below}
 use Rattle.ofdm.specs.Band.{segmentAt}
 use Rattle.ofdm.specs.Laws.{segment-ends}
 use Rattle.tmcc.specs.Tmcc.{passes, placeTmcc, tmccCarriers, softTerm, softValue}
 use Rattle.tmcc.specs.Inner.{Addable, addedTo}
-
--- ---- one segment more
--- ---- a row's front, lent
-module _ (r : Positions) (ps : List ℕ) (l : Listed r ps) where
-  pub front-length : r .count ≡ length (take (r .count) (r .places))
-  front-length = l .count ∙ sym (ap length (l .places))
-
-  pub front-room : r .count ≤ length (r .places)
-  front-room = omega (arith, front-length, length-take (r .count) (r .places))
 
 -- ---- the segment at a place of the band, of c carriers
 module _ (mode : Mode) (c place : ℕ) (sizes : c ≡ carriersPerSegment mode) (h : place < 13) where
@@ -40,7 +32,7 @@ module _ (mode : Mode) (c place : ℕ) (sizes : c ≡ carriersPerSegment mode) (
 
   -- the places of its row can be added
   pub addable : (len n : ℕ) (kind : SegmentKind) (seg : ℕ) (r : Positions) → len ≡ totalCarriers mode → n ≡ 4 * totalCarriers mode → seg < 13
-      → Listed r (tmccOf mode kind seg) → Addable (take (r .count) (r .places)) (place * c) len n
+      → Listed r (tmccOf mode kind seg) → Addable (front r) (place * c) len n
   addable len n kind seg r band two in-table l =
       rw (l .places, sizes, band)
       (record {
@@ -84,6 +76,6 @@ module _ (mode : Mode) (kinds : List ℕ) (filter : ℕ) (xs : List Float) where
       skip e = more sum (rw (carriers-are, e))
 
       pub further : (c len : ℕ) (r : Positions) (sum' : Float) → b ≡ true → c ≡ carriersPerSegment mode → len ≡ totalCarriers mode → Listed r (tmccOf mode kind seg)
-          → sum' ≡ addedTo sum len xs (place * c) (take (r .count) (r .places)) → Summed sum' (place + 1)
+          → sum' ≡ addedTo sum len xs (place * c) (front r) → Summed sum' (place + 1)
       unfolding addedTo
       further c len r sum' e sizes band l a = more sum' (a ∙ rw (carriers-are, e, map-map, l .places, sizes, band))

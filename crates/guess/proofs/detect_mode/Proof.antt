@@ -30,10 +30,10 @@ abbrev μ-loop : tie.MeasureT-loop
 μ-loop samples modes guards scratch₀ pairs best₀ i₀ scratch best i = length modes - i
 
 modes-known : (c : tie.Else1 Inv-loop μ-loop) → allIn isMode (c .before .before .before .before .before .before .args .modes .now) ≡ true
-modes-known c = sym (c .before .are-modes .ensures) ∙ not-false _ (c .if1 .left)
+modes-known c = sym (c .before .are-codes .ensures) ∙ not-false _ (c .if1 .left)
 
 guards-known : (c : tie.Else2 Inv-loop μ-loop) → allIn isGuard (c .before .before .before .before .before .before .before .before .args .guards .now) ≡ true
-guards-known c = sym (c .before .are-guards .ensures) ∙ not-false _ (c .if2 .left)
+guards-known c = sym (c .before .are-codes2 .ensures) ∙ not-false _ (c .if2 .left)
 
 -- after the loop and `clear`
 abbrev Cleared : Type 0
@@ -54,17 +54,17 @@ ends c r e =
     (e ∙ all-modes (s .samples .now) (s .modes .now) (s .guards .now) _ (l .loop .i) (c .before .before .loop-test .left) (l .loop .inv .2))
     (c .clear .ensures ∙ ap (upTo (λ i. plusZero binary64)) (l .loop .inv .1))
 
-are-modes-requires : tie.Need-are-modes-requires Inv-loop μ-loop
-are-modes-requires c κs = search needs
+are-codes-requires : tie.Need-are-codes-requires Inv-loop μ-loop
+are-codes-requires c κs = search needs
 
 returns : tie.Need-returns Inv-loop μ-loop
-returns c = no-mode _ _ _ _ (sym (c .before .are-modes .ensures) ∙ not-true _ (c .if1 .taken))
+returns c = no-mode _ _ _ _ (sym (c .before .are-codes .ensures) ∙ not-true _ (c .if1 .taken))
 
-are-guards-requires : tie.Need-are-guards-requires Inv-loop μ-loop
-are-guards-requires c κs = search needs
+are-codes-requires-2 : tie.Need-are-codes-requires-2 Inv-loop μ-loop
+are-codes-requires-2 c κs = search needs
 
 returns-2 : tie.Need-returns-2 Inv-loop μ-loop
-returns-2 c = no-guard _ _ _ _ (modes-known (c .before .before)) (sym (c .before .are-guards .ensures) ∙ not-true _ (c .if2 .taken))
+returns-2 c = no-guard _ _ _ _ (modes-known (c .before .before)) (sym (c .before .are-codes2 .ensures) ∙ not-true _ (c .if2 .taken))
 
 returns-3 : tie.Need-returns-3 Inv-loop μ-loop
 returns-3 c = odd _ _ _ _ (modes-known (c .before .before .before)) (guards-known (c .before)) (c .if3 .taken)
@@ -140,9 +140,9 @@ detect-mode-spec =
     (tie.spec
     Inv-loop
     μ-loop
-    are-modes-requires
+    are-codes-requires
     returns
-    are-guards-requires
+    are-codes-requires-2
     returns-2
     returns-3
     returns-4

@@ -27,22 +27,22 @@ abbrev μ-loop : tie.MeasureT-loop
 μ-loop modes guards symbols most₀ i₀ most i = length modes - i
 
 modes-known : (c : tie.Else1 Inv-loop μ-loop) → allIn isMode (c .before .before .before .before .args .modes .now) ≡ true
-modes-known c = sym (c .before .are-modes .ensures) ∙ not-false _ (c .if1 .left)
+modes-known c = sym (c .before .are-codes .ensures) ∙ not-false _ (c .if1 .left)
 
 guards-known : (c : tie.Else2 Inv-loop μ-loop) → allIn isGuard (c .before .before .before .before .before .before .args .guards .now) ≡ true
-guards-known c = sym (c .before .are-guards .ensures) ∙ not-false _ (c .if2 .left)
+guards-known c = sym (c .before .are-codes2 .ensures) ∙ not-false _ (c .if2 .left)
 
-are-modes-requires : tie.Need-are-modes-requires Inv-loop μ-loop
-are-modes-requires c κs = search needs
+are-codes-requires : tie.Need-are-codes-requires Inv-loop μ-loop
+are-codes-requires c κs = search needs
 
 returns : tie.Need-returns Inv-loop μ-loop
-returns c = needs-mode _ _ _ (sym (c .before .are-modes .ensures) ∙ not-true _ (c .if1 .taken))
+returns c = needs-mode _ _ _ (sym (c .before .are-codes .ensures) ∙ not-true _ (c .if1 .taken))
 
-are-guards-requires : tie.Need-are-guards-requires Inv-loop μ-loop
-are-guards-requires c κs = search needs
+are-codes-requires-2 : tie.Need-are-codes-requires-2 Inv-loop μ-loop
+are-codes-requires-2 c κs = search needs
 
 returns-2 : tie.Need-returns-2 Inv-loop μ-loop
-returns-2 c = needs-guard _ _ _ (modes-known (c .before .before)) (sym (c .before .are-guards .ensures) ∙ not-true _ (c .if2 .taken))
+returns-2 c = needs-guard _ _ _ (modes-known (c .before .before)) (sym (c .before .are-codes2 .ensures) ∙ not-true _ (c .if2 .taken))
 
 returns-3 : tie.Need-returns-3 Inv-loop μ-loop
 returns-3 c = needs-fewer _ _ _ (modes-known (c .before .before .before)) (guards-known (c .before)) (c .if3 .taken)
@@ -94,9 +94,9 @@ samples-needed-spec =
     (tie.spec
     Inv-loop
     μ-loop
-    are-modes-requires
+    are-codes-requires
     returns
-    are-guards-requires
+    are-codes-requires-2
     returns-2
     returns-3
     loop-holds

@@ -31,10 +31,10 @@ enum-told c = search needs
 
 returns-2 : tie.Need-returns-2
 returns-2 c =
-    let a = c .before .before .before .before .before .before .before .before .args in
-    let h = c .before .before .before .before .before .detect-sp-phase .ensures in
-    let z = c .before .before .before .before .if1 .left in
-    let e = sym (h .phase) ∙ c .before .p .given .1 in
+    let a = c .before .before .before .before .before .before .before .args in
+    let h = c .before .before .before .before .detect-sp-phase .ensures in
+    let z = c .before .before .before .if1 .left in
+    let e = sym (h .phase) ∙ c .enum-told .given .1 in
     record {
       code = sym z ∙ h .code;
       found = taken _ _ _ _ _ (h .code) z (sym (ap phaseFound e));
@@ -46,10 +46,10 @@ returns-2 c =
 
 returns-3 : tie.Need-returns-3
 returns-3 c =
-    let a = c .before .before .before .before .before .before .before .args in
-    let h = c .before .before .before .before .detect-sp-phase .ensures in
-    let z = c .before .before .before .if1 .left in
-    let e = sym (h .phase) ∙ c .enum-told .given .1 in
+    let a = c .before .before .before .before .before .before .before .before .args in
+    let h = c .before .before .before .before .before .detect-sp-phase .ensures in
+    let z = c .before .before .before .before .if1 .left in
+    let e = sym (h .phase) ∙ c .before .p .given .1 in
     record {
       code = sym z ∙ h .code;
       found = taken _ _ _ _ _ (h .code) z (sym (ap phaseFound e));

@@ -3,7 +3,8 @@
 use mathlib.Core.Path.{sym, _∙_}
 use native.Mathlib.Omega.{arith}
 use Rattle.params.specs.Laws.{sized}
-use Rattle.segment_kinds.proofs.Answers.{some-spectra, bad-mode, bad-spectra, bad-length, answered}
+use Rattle.spectra.specs.Accepted.{accepted}
+use Rattle.segment_kinds.proofs.Answers.{bad-mode, bad-spectra, bad-length, answered}
 use borrow.Author.Needs.{needs}
 use Rattle.segment_kinds.proofs.detect_kinds.Statement.{statement}
 use Rattle.segment_kinds.proofs.detect_kinds.Tie as tie
@@ -52,7 +53,7 @@ returns-3 c =
     bad-length _ _ (sym (f .from-number .ensures) ∙ t .before .before .m .given .1) (s .args .spectra .now) (s .args .ratios .now) _ _ (t .total-carriers .ensures) (c .before .before .before .refusal .ensures) _ (c .before .before .if1 .left) (c .before .if2 .taken) (c .refused3 .ensures)
 
 continual-metric-requires : tie.Need-continual-metric-requires
-continual-metric-requires c κs = record { some = some-spectra _ _ (sym (c .before .before .before .refusal .ensures) ∙ c .before .before .if1 .left); bins = c .before .if2 .left }
+continual-metric-requires c κs = record { some = accepted _ _ 0 (sym (c .before .before .before .refusal .ensures) ∙ c .before .before .if1 .left) .some; bins = c .before .if2 .left }
 
 detected-requires : tie.Need-detected-requires
 detected-requires c κs = search needs

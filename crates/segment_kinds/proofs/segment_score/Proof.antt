@@ -1,7 +1,8 @@
 -- `segment_kinds::segment_score` meets its contract: the rows are those of the tables, and the part of the band is the segment's.
 -- Assumes nothing.
 use native.Mathlib.Omega.{arith}
-use Rattle.segment_kinds.proofs.Scores.{front-length, front-room, part-ends, scorable, scored}
+use Rattle.tables.specs.Fronts.{front-length, front-room}
+use Rattle.segment_kinds.proofs.Scores.{part-ends, scorable, scored}
 use borrow.Author.Needs.{needs}
 use Rattle.segment_kinds.proofs.segment_score.Statement.{statement}
 use Rattle.segment_kinds.proofs.segment_score.Tie as tie
@@ -51,28 +52,28 @@ tmcc-positions-requires-2 : tie.Need-tmcc-positions-requires-2
 tmcc-positions-requires-2 c κs = search needs
 
 array-share-prefix-tmcc-places : tie.Need-array-share-prefix-tmcc-places
-array-share-prefix-tmcc-places c = front-room _ _ (c .before .before .before .before .before .before .before .tmcc-positions .ensures)
+array-share-prefix-tmcc-places c = front-room (c .before .before .before .before .before .before .before .tmcc-positions .ensures)
 
 slice-aggregate-mean-ratio : tie.Need-slice-aggregate-mean-ratio
-slice-aggregate-mean-ratio c = front-length _ _ (c .before .before .before .before .before .before .before .before .tmcc-positions .ensures)
+slice-aggregate-mean-ratio c = front-length (c .before .before .before .before .before .before .before .before .tmcc-positions .ensures)
 
 array-share-prefix-ac1-places : tie.Need-array-share-prefix-ac1-places
-array-share-prefix-ac1-places c = front-room _ _ (c .before .before .before .before .before .before .before .ac1-positions .ensures)
+array-share-prefix-ac1-places c = front-room (c .before .before .before .before .before .before .before .ac1-positions .ensures)
 
 slice-aggregate-mean-ratio-2 : tie.Need-slice-aggregate-mean-ratio-2
-slice-aggregate-mean-ratio-2 c = front-length _ _ (c .before .before .before .before .before .before .before .before .ac1-positions .ensures)
+slice-aggregate-mean-ratio-2 c = front-length (c .before .before .before .before .before .before .before .before .ac1-positions .ensures)
 
 array-share-prefix-ac2-places : tie.Need-array-share-prefix-ac2-places
-array-share-prefix-ac2-places c = front-room _ _ (c .before .before .before .before .before .before .before .ac2-positions .ensures)
+array-share-prefix-ac2-places c = front-room (c .before .before .before .before .before .before .before .ac2-positions .ensures)
 
 slice-aggregate-mean-ratio-3 : tie.Need-slice-aggregate-mean-ratio-3
-slice-aggregate-mean-ratio-3 c = front-length _ _ (c .before .before .before .before .before .before .before .before .ac2-positions .ensures)
+slice-aggregate-mean-ratio-3 c = front-length (c .before .before .before .before .before .before .before .before .ac2-positions .ensures)
 
 array-share-prefix-differential-places : tie.Need-array-share-prefix-differential-places
-array-share-prefix-differential-places c = front-room _ _ (c .before .before .before .before .before .before .before .tmcc-positions2 .ensures)
+array-share-prefix-differential-places c = front-room (c .before .before .before .before .before .before .before .tmcc-positions2 .ensures)
 
 slice-aggregate-mean-ratio-4 : tie.Need-slice-aggregate-mean-ratio-4
-slice-aggregate-mean-ratio-4 c = front-length _ _ (c .before .before .before .before .before .before .before .before .tmcc-positions2 .ensures)
+slice-aggregate-mean-ratio-4 c = front-length (c .before .before .before .before .before .before .before .before .tmcc-positions2 .ensures)
 
 mean-ratio-requires : tie.Need-mean-ratio-requires
 mean-ratio-requires c κs =

@@ -1,7 +1,9 @@
 -- `shift::integer_cfo` meets its contract: each refusal is the case that the tests decide, and the search's best place is the winner.
 -- Assumes nothing.
+use mathlib.Core.Path.{sym, _∙_}
+use Rattle.spectra.specs.Accepted.{accepted}
 use Rattle.shift.proofs.Signed.{held-exactly, shift-fits, shift-is}
-use Rattle.shift.proofs.Codes.{some-spectra, by-spectra, by-length, by-bound, by-none}
+use Rattle.shift.proofs.Codes.{by-spectra, by-length, by-bound, by-none}
 use Rattle.shift.proofs.Answers.{front-few, front-fits, front-is, front-length, mode-bins, shift-small, searchable, bad-mode, refused, answered}
 use borrow.Author.Needs.{needs}
 use native.Mathlib.Omega.{arith}
@@ -50,7 +52,7 @@ returns-4 c =
 continual-metric-requires : tie.Need-continual-metric-requires
 continual-metric-requires c κs =
     let t = c .before .before in
-    record { some = some-spectra _ _ _ (t .before .before .refusal .ensures) (t .before .if1 .left); bins = t .if2 .left }
+    record { some = accepted _ _ 0 (sym (t .before .before .refusal .ensures) ∙ t .before .if1 .left) .some; bins = t .if2 .left }
 
 pattern-buffer-requires : tie.Need-pattern-buffer-requires
 pattern-buffer-requires c κs = search needs

@@ -4,7 +4,8 @@ use Prim.Native.Nat.{_-_}
 use mathlib.Core.Logic.{⊎-elim}
 use native.Mathlib.Omega.{arith}
 use borrow.Author.Needs.{needs}
-use Rattle.tmcc.proofs.Segments.{front-length, front-room, first-small, addable, Summed, begin, skip, further, done}
+use Rattle.tables.specs.Fronts.{front-length, front-room}
+use Rattle.tmcc.proofs.Segments.{first-small, addable, Summed, begin, skip, further, done}
 use Rattle.tmcc.proofs.soft_value.Statement.{statement}
 use Rattle.tmcc.proofs.soft_value.Tie as tie
 
@@ -36,10 +37,10 @@ tmcc-positions-requires : tie.Need-tmcc-positions-requires Inv-loop μ-loop
 tmcc-positions-requires c κs = c .before .before .before .segment-at-position .ensures .1
 
 array-share-prefix-places : tie.Need-array-share-prefix-places Inv-loop μ-loop
-array-share-prefix-places c = front-room _ _ (c .before .tmcc-positions .ensures)
+array-share-prefix-places c = front-room (c .before .tmcc-positions .ensures)
 
 slice-aggregate-add-places : tie.Need-slice-aggregate-add-places Inv-loop μ-loop
-slice-aggregate-add-places c = front-length _ _ (c .before .before .tmcc-positions .ensures)
+slice-aggregate-add-places c = front-length (c .before .before .tmcc-positions .ensures)
 
 mul-add-places : tie.Need-mul-add-places Inv-loop μ-loop
 mul-add-places c =

@@ -1,0 +1,39 @@
+-- What the refusal of spectra decides: the tests behind it count only where it is 0, and then the floats are whole spectra, 1 to 1,024 of them.
+-- Assumes nothing.
+use Prim.Native.Nat.{ℕ, zero, suc, _+_, _*_, _%_, _≤_, _<_}
+use mathlib.Core.Bool.{Bool, true, false, cond}
+use mathlib.Core.Path.{_≡_, refl}
+use native.Mathlib.Nat.{zero-mul, zero-lt-suc, div-add-mod'}
+use native.Mathlib.Omega.{arith}
+use borrow.Author.Tests.{eqb-true, leb-true, ltb-true}
+use lib.Dec.{eqb, leb, ltb, lit<}
+use Rattle.lists.specs.Refusals.{unless, passed}
+use Rattle.lists.specs.Tests.{both-left, both-right}
+use Rattle.spectra.specs.Spectra.{spectraIn, areSpectra, spectraCode}
+
+pub later-counts : (len n later : ℕ) → spectraCode len n later ≡ cond (eqb (spectraCode len n 0) 0) later (spectraCode len n 0)
+later-counts len n later = by (areSpectra len n) (ltb 0 n)
+  where
+    by : (a b : Bool) → unless a 5 (unless b 6 later) ≡ cond (eqb (unless a 5 (unless b 6 0)) 0) later (unless a 5 (unless b 6 0))
+    by true true = refl
+    by true false = refl
+    by false b = refl
+
+pub record Accepted (len n : ℕ) : Type 0 where
+  pub some : 0 < spectraIn len n
+  pub few : spectraIn len n ≤ 1024
+
+some-wholes : (q w r n : ℕ) → q * w + r ≡ n → r ≡ 0 → 0 < n → 0 < q
+some-wholes zero w r n e z h = absurd (omega (arith, zero-mul w))
+some-wholes (suc q) w r n e z h = zero-lt-suc q
+
+pub accepted : (len n later : ℕ) → spectraCode len n later ≡ 0 → Accepted len n
+accepted len n later e =
+    let whole = passed (areSpectra len n) 5 _ (lit< tt) e in
+    let some = passed (ltb 0 n) 6 later (lit< tt) (whole .rest) in
+    let t = eqb (n % (2 * len)) 0 in
+    let u = leb (spectraIn len n) 1024 in
+    record {
+      some = some-wholes _ (2 * len) _ n (div-add-mod' n (2 * len)) (eqb-true _ _ (both-left t u (whole .first))) (ltb-true _ _ (some .first));
+      few = leb-true _ _ (both-right t u (whole .first));
+    }
