@@ -1,6 +1,6 @@
--- What `narrow_root` makes of a guess y. (8 * y - 4) and (8 * y + 4) squared enclose a, with 4 to spare, so the nearest whole root of
--- a * 2 ^ 52 lies between (8 * y - 4) * 2 ^ 26 and (8 * y + 4) * 2 ^ 26 (`enclosed`). These are the points halfway from y * 2 ^ 29 to its
--- neighbours, so the root is y when it is cut to 24 digits.
+-- What `narrow_root` makes of a guess y. The squares of 8 * y - 4 and of 8 * y + 4 enclose a, with 4 to spare, so the nearest root of
+-- a * 2 ^ 52, of 53 digits, lies between 8 * y - 4 and 8 * y + 4 times 2 ^ 26 (`enclosed`). These are the points halfway from y * 2 ^ 29 to
+-- the multiples of 2 ^ 29 beside it, so the root narrows to the digits y.
 -- Assumes nothing.
 use mathlib.Core.Path.{_≡_, refl, sym, ap, _∙_, subst}
 use mathlib.Core.Bool.{Bool, true, false, not}
@@ -51,58 +51,29 @@ above h n s r false y e k g l =
     omega arith)
 
 -- ---- the guess
--- the point halfway from y * 2 ^ 29 to the next multiple
-abbrev mid : ℕ → ℕ
-mid y = (8 * y + 4) * 67108864
-
-mid-square : (y : ℕ) → mid y * mid y ≡ (64 * (y * y) + 64 * y + 16) * 4503599627370496
-mid-square y = mul-mul-mul-comm (8 * y + 4) 67108864 (8 * y + 4) 67108864 ∙ ap (λ (x : ℕ). x * 4503599627370496) (squared y)
+enclosed : (a y s r : ℕ) → Rooted a s r → y < 16777216 → Near a y
+    → ((8 * y - 4) * 67108864 < more (ltb s r) s) × (more (ltb s r) s < (8 * y + 4) * 67108864)
+enclosed a y s r p Y n = (
+  above l N s r (ltb s r) (nltb→le s r) (p .whole) (p .rem) (let q = square (8 * y - 4) in let k = n .low in omega arith) (omega arith),
+  below h N s r (ltb s r) (ltb→lt s r) (p .whole) (let q = square (8 * y + 4) in let k = n .high in omega arith) (omega arith),
+)
   where
-    squared : (y : ℕ) → (8 * y + 4) * (8 * y + 4) ≡ 64 * (y * y) + 64 * y + 16
-    squared y = rw (add-mul, mul-add, mul-add) (let e = mul-mul-mul-comm 8 y 8 y in omega arith)
+    N : ℕ
+    N = a * 4503599627370496
 
-y-high : (a y : ℕ) → Near a y → a ≤ 18014398509481982 → y ≤ 16777216
-y-high a y n h =
-    le-of-next (lt-of-not-le (λ (g : 16777217 ≤ y).
-    let p : 16777217 * y ≤ y * y = mul-le-mul-right y g in
-    let q = n .low in
-    omega arith))
+    l : ℕ
+    l = (8 * y - 4) * 67108864
 
-enclosed : (a y s r : ℕ) → Rooted a s r → 4503599627370496 ≤ a → a ≤ 18014398509481982 → Near a y
-    → (y * 536870912 < more (ltb s r) s + 268435456) × (more (ltb s r) s < y * 536870912 + 268435456)
-enclosed a y s r p lo hi n = (low y n (y-high a y n hi), high)
+    h : ℕ
+    h = (8 * y + 4) * 67108864
+
+    square : (x : ℕ) → x * 67108864 * (x * 67108864) ≡ x * x * 4503599627370496
+    square x = mul-mul-mul-comm x 67108864 x 67108864
+
+certified : (a y s r : ℕ) → Rooted a s r → y < 16777216 → Near a y → closest (more (ltb s r) s) 536870912 ≡ y
+certified a y s r p Y n = let e = enclosed a y s r p Y n in sym (closest-29 (more (ltb s r) s)) ∙ cut (more (ltb s r) s) y (e .0) (e .1)
   where
-    w : s * s + r ≡ a * 4503599627370496
-    w = p .whole
-
-    high : more (ltb s r) s < y * 536870912 + 268435456
-    high =
-        let k = n .high in
-        let q = mid-square y in
-        let Y = y-high a y n hi in
-        let g : a * 4503599627370496 + 18014398509481984 ≤ mid y * mid y = omega arith in
-        let l : mid y < 18014398509481984 = omega arith in
-        let z = below (mid y) (a * 4503599627370496) s r (ltb s r) (ltb→lt s r) w g l in
-        omega arith
-
-    low : (y : ℕ) → Near a y → y ≤ 16777216 → y * 536870912 < more (ltb s r) s + 268435456
-    low zero n Y = let k = n .high in absurd (none a lo k)
-      where
-        none : (a : ℕ) → 4503599627370496 ≤ a → a ≤ 64 * (0 * 0) + 64 * 0 + 12 → ⊥
-        none a x y = omega arith
-    low (suc d) n Y =
-        let k = n .low in
-        let q = mid-square d in
-        let e : suc d * suc d ≡ d * d + 2 * d + 1 = ap (λ (x : ℕ). x * x) (sym (add-one d)) ∙ next-square d in
-        let g : mid d * mid d + 18014398509481984 ≤ a * 4503599627370496 = omega arith in
-        let l : mid d < 18014398509481984 = omega arith in
-        let z = above (mid d) (a * 4503599627370496) s r (ltb s r) (nltb→le s r) w (p .rem) g l in
-        omega arith
-
-certified : (a y s r : ℕ) → Rooted a s r → 4503599627370496 ≤ a → a ≤ 18014398509481982 → Near a y → closest (more (ltb s r) s) 536870912 ≡ y
-certified a y s r p lo hi n = let e = enclosed a y s r p lo hi n in sym (closest-29 (more (ltb s r) s)) ∙ cut (more (ltb s r) s) y (e .0) (e .1)
-  where
-    cut : (q y : ℕ) → y * 536870912 < q + 268435456 → q < y * 536870912 + 268435456 → (q + 268435455 + q / 536870912 % 2) / 536870912 ≡ y
+    cut : (q y : ℕ) → (8 * y - 4) * 67108864 < q → q < (8 * y + 4) * 67108864 → (q + 268435455 + q / 536870912 % 2) / 536870912 ≡ y
     cut q y a b = omega arith
 
 -- ---- the bits
@@ -134,23 +105,17 @@ rooted a h = (n - s * s, record { whole = back; rem = rest; low = long })
         big : (a : ℕ) → 4503599627370496 ≤ a → 4503599627370496 * 4503599627370496 ≤ a * 4503599627370496
         big a h = omega arith
 
--- the operand of the root of the pattern b, as `root_of_units` has it
-abbrev exponent : ℕ → ℕ
-exponent b = b / 4503599627370496 - 1
-
-abbrev significand : ℕ → ℕ
-significand b = b % 4503599627370496 + 4503599627370496
-
+-- the operand of the root, as `guessed_bits` has it of the bits t
 abbrev pub operand : ℕ → ℕ
-operand b = significand b * (exponent b % 2 + 1)
+operand t = (t % 4503599627370496 + 4503599627370496) * (t / 4503599627370496 % 2 + 1)
 
-pub operand-in : (b : ℕ) → (4503599627370496 ≤ operand b) × (operand b ≤ 18014398509481982)
-operand-in b = go (exponent b % 2) (bit (exponent b))
+pub operand-in : (t : ℕ) → (4503599627370496 ≤ operand t) × (operand t ≤ 18014398509481982)
+operand-in t = go (t / 4503599627370496 % 2) (bit (t / 4503599627370496))
   where
     bit : (k : ℕ) → k % 2 < 2
     bit k = omega arith
 
-    go : (r : ℕ) → r < 2 → (4503599627370496 ≤ significand b * (r + 1)) × (significand b * (r + 1) ≤ 18014398509481982)
+    go : (r : ℕ) → r < 2 → (let m = t % 4503599627370496 + 4503599627370496 in (4503599627370496 ≤ m * (r + 1)) × (m * (r + 1) ≤ 18014398509481982))
     go zero h = (omega arith, omega arith)
     go (suc zero) h = (omega arith, omega arith)
     go (suc (suc r)) h = absurd (no r h)
@@ -169,46 +134,62 @@ narrowed g q y l lo hi e =
     ((λ i. (E i - 897) * 8388608 + closest (M i) 536870912) ∙ (λ i. F i * 8388608 + e i))
     (narrow-normal c (omega arith) (omega arith))
 
-pub guessed : (b y : ℕ) → 3472275312702652416 ≤ b → b < 5760103923406864384 → Near (operand b) y → NarrowRoot b ((exponent b / 2 - 385) * 8388608 + y)
-guessed b y lo hi n =
-    let a = operand b in
-    let h = 537 + exponent b / 2 in
-    let A = operand-in b in
-    let p = rooted a (A .0) in
-    let s = wholeRoot (a * 4503599627370496) in
-    let r = p .0 in
-    let q = more (ltb s r) s in
-    let g = h - 0 - 26 in
-    let l : Lifted a a 0 = record { whole = sym (mul-one a); few = lit≤ tt; low = A .0; high = A .1 } in
-    let f = finished a h a 0 s r l (p .1) (h-lo b) (h-hi b hi) in
-    let w = narrowed g q y (nearest-in a s r (ltb s r) (p .1) (A .1) (ltb→lt s r)) (g-lo b lo) (g-hi b hi) (certified a y s r (p .1) (A .0) (A .1) n) in
-    subst (λ (z : ℕ). NarrowRoot b (z * 8388608 + y)) (same b)
-    record {
-      low = w .low;
-      is =
-          ap (ofBits binary32) (sym (zero-add ((g - 896) * 8388608 + y)))
-          ∙ w .is false
-          ∙ ap (λ (x : ℕ). narrowOf (ofBits binary64 x)) (zero-add (g * 4503599627370496 + q))
-          ∙ ap narrowOf (f .is ∙ ap rootUnits (half (significand b) (exponent b) .2) ∙ sym (root-mid b (normal b lo) (finite b hi)));
-    }
+-- the root of the pattern b; t is what b has above the pattern of 2 ^ -252
+root-of : (b : ℕ) → 3472275312702652416 ≤ b → b < 5760103923406864384
+    → (let t = b - 3472275312702652416 in
+    let h = 537 + (770 + t / 4503599627370496) / 2 in
+    rootUnits (operand t * 2 ^ (h + h)) ≡ rootOf (ofBits binary64 b))
+root-of b lo hi =
+    let t = b - 3472275312702652416 in
+    let m = t % 4503599627370496 + 4503599627370496 in
+    let k = 770 + t / 4503599627370496 in
+    let h = 537 + k / 2 in
+    ap (λ (x : ℕ). rootUnits (m * (x + 1) * 2 ^ (h + h))) (even (t / 4503599627370496))
+    ∙ ap rootUnits (half m k .2)
+    ∙ (λ i. rootUnits ((low b lo i + 4503599627370496) * 2 ^ high b lo i * 2 ^ 1074))
+    ∙ sym (root-mid b (normal b lo) (finite b hi))
   where
+    even : (k : ℕ) → k % 2 ≡ (770 + k) % 2
+    even k = omega arith
+
+    low : (b : ℕ) → 3472275312702652416 ≤ b → (b - 3472275312702652416) % 4503599627370496 ≡ b % 4503599627370496
+    low b h = omega arith
+
+    high : (b : ℕ) → 3472275312702652416 ≤ b → 770 + (b - 3472275312702652416) / 4503599627370496 ≡ b / 4503599627370496 - 1
+    high b h = omega arith
+
     normal : (b : ℕ) → 3472275312702652416 ≤ b → b / 4503599627370496 ≡ 0 → ⊥
     normal b h e = omega arith
 
     finite : (b : ℕ) → b < 5760103923406864384 → b < 9218868437227405312
     finite b h = omega arith
 
-    h-lo : (b : ℕ) → 537 ≤ 537 + exponent b / 2
-    h-lo b = omega arith
-
-    h-hi : (b : ℕ) → b < 5760103923406864384 → 537 + exponent b / 2 ≤ 1560
-    h-hi b h = omega arith
-
-    g-lo : (b : ℕ) → 3472275312702652416 ≤ b → 896 ≤ 537 + exponent b / 2 - 0 - 26
-    g-lo b h = omega arith
-
-    g-hi : (b : ℕ) → b < 5760103923406864384 → 537 + exponent b / 2 - 0 - 26 ≤ 1149
-    g-hi b h = omega arith
-
-    same : (b : ℕ) → 537 + exponent b / 2 - 0 - 26 - 896 ≡ exponent b / 2 - 385
-    same b = omega arith
+pub guessed : (b y : ℕ) → 3472275312702652416 ≤ b → b < 5760103923406864384 → y < 16777216
+    → (let t = b - 3472275312702652416 in Near (operand t) y → NarrowRoot b (t / 4503599627370496 / 2 * 8388608 + y))
+guessed b y lo hi Y n =
+    let t = b - 3472275312702652416 in
+    let k = t / 4503599627370496 in
+    let K : k < 508 = omega arith in
+    let h = 537 + (770 + k) / 2 in
+    let g = h - 0 - 26 in
+    let a = operand t in
+    let A = operand-in t in
+    let p = rooted a (A .0) in
+    let s = wholeRoot (a * 4503599627370496) in
+    let r = p .0 in
+    let q = more (ltb s r) s in
+    let l : Lifted a a 0 = record { whole = sym (mul-one a); few = lit≤ tt; low = A .0; high = A .1 } in
+    let f = finished a h a 0 s r l (p .1) (omega arith) (omega arith) in
+    let w = narrowed g q y (nearest-in a s r (ltb s r) (p .1) (A .1) (ltb→lt s r)) (omega arith) (omega arith) (certified a y s r (p .1) Y n) in
+    subst (λ (z : ℕ). NarrowRoot b (z * 8388608 + y)) (same k)
+    record {
+      low = w .low;
+      is =
+          ap (ofBits binary32) (sym (zero-add ((g - 896) * 8388608 + y)))
+          ∙ w .is false
+          ∙ ap (λ (x : ℕ). narrowOf (ofBits binary64 x)) (zero-add (g * 4503599627370496 + q))
+          ∙ ap narrowOf (f .is ∙ root-of b lo hi);
+    }
+  where
+    same : (k : ℕ) → 537 + (770 + k) / 2 - 0 - 26 - 896 ≡ k / 2
+    same k = omega arith

@@ -2,7 +2,7 @@
 -- Definitions only.
 use mathlib.Core.Path.{_≡_}
 use mathlib.Core.Bool.{Bool, cond}
-use Prim.Native.Nat.{ℕ, _+_, _*_, _^_, _≤_, _<_}
+use Prim.Native.Nat.{ℕ, _+_, _-_, _*_, _^_, _≤_, _<_}
 use lib.Ieee.{binary32, binary64, ofBits}
 use Rattle.ieee.specs.Root.{rootUnits, rootOf}
 use Rattle.ieee.specs.Narrow.{narrowOf}
@@ -52,10 +52,10 @@ pub record Narrowed (b r : ℕ) : Type 0 where
 
 -- ---- the narrowed root
 
--- (8 * y - 4) squared and (8 * y + 4) squared enclose a, with 4 to spare
+-- the root of a lies between the points halfway from 8 * y to the multiples of 8 beside it, and not at them: squared, with 4 to spare
 pub record Near (a y : ℕ) : Type 0 where
-  pub low : 64 * (y * y) + 20 ≤ a + 64 * y
-  pub high : a ≤ 64 * (y * y) + 64 * y + 12
+  pub low : (8 * y - 4) * (8 * y - 4) + 4 ≤ a
+  pub high : a + 4 ≤ (8 * y + 4) * (8 * y + 4)
 
 -- r is the f32 pattern of the narrowed root of what the f64 pattern b stands for
 pub record NarrowRoot (b r : ℕ) : Type 0 where

@@ -228,57 +228,59 @@ pub fn narrow(x: f64) -> f32
     f32::from_bits(0x8000_0000 + narrow_bits(b - 0x8000_0000_0000_0000))
 }
 
-// About the root of the number whose bits are b, as an f32 has it: 24 digits. The constants make
-// the steps of Newton as exact as they can be. Nothing is promised: `is_near` tells what came out.
+// The leading 24 digits of about the root of the number whose bits are b: a guess by three steps of
+// Newton, from half the exponent. Nothing is promised of it; `is_near` tells whether it is good.
 fn near_root(b: u64) -> u64
-    requires { ⌜ (3472275312702652416 ≤ b) × (b < 5760103923406864384) ⌝ }
-    ensures { λ y. ⌜ y < 33554432 ⌝ }
+    requires { ⌜ b < 5760103923406864384 ⌝ }
+    ensures { λ y. ⌜ (8388608 ≤ y) × (y < 16777216) ⌝ }
 {
     let x = f64::from_bits(b);
-    let r0 = f64::from_bits(0x5fec_0000_0000_0000 - b / 2);
-    let r1 = r0 * (4.7779014957278 - x * r0 * r0);
-    let r2 = r1 * (48.41338470181494 - x * r1 * r1);
+    let r0 = f64::from_bits(0x5fdf_3d58_0000_0000 - b / 2);
+    let r1 = r0 * (1.54 - x * r0 * r0);
+    let r2 = r1 * (1.62009 - x * r1 * r1);
     let s = x * r2;
-    let c = s * 2.2939374252701798e-7 * (50432.854083315004 - s * r2);
+    let c = s * (1.8898815748423097 - s * r2);
     if c != c {
-        return 0;
+        return 0x80_0000;
     }
-    // rounded to 24 digits, and without the exponent of the root
-    let g = (b / 0x10_0000_0000_0000 - 1) / 2 + 511;
-    let up = 0x8000_0000_1000_0000 - g * 0x10_0000_0000_0000;
-    (f64::to_bits(c) % 0x8000_0000_0000_0000 + up) / 0x2000_0000 % 0x200_0000
+    // rounded, and without the exponent
+    let q = (f64::to_bits(c) % 0x8000_0000_0000_0000 + 0x1000_0000) / 0x2000_0000;
+    q % 0x80_0000 + 0x80_0000
 }
 
-// Whether 8 * y is so near to the root of a that no rounding tells them apart.
+// Whether the root of a, divided by 8, is clearly nearer to y than to any other whole number.
 fn is_near(a: u64, y: u64) -> bool
-    requires { ⌜ (a ≤ 18014398509481982) × (y < 33554432) ⌝ }
+    requires { ⌜ (a ≤ 18014398509481982) × (8388608 ≤ y) × (y < 16777216) ⌝ }
     ensures { λ r. ⌜ (r ≡ true → Near a y) ⌝ }
 {
-    let s = 64 * (y * y);
-    if a + 64 * y < s + 20 {
+    let h = 8 * y + 4;
+    let s = h * h;
+    if s < a + 4 {
         return false;
     }
-    a <= s + 64 * y + 12
+    s + 68 <= a + 16 * h
 }
 
 // The bits of the narrowed root of the number whose bits are b, or 0 where the guess was no good.
-// The digits that round up carry into the exponent by themselves.
+// b is such that the root is an f32 of 24 digits.
 fn guessed_bits(b: u64) -> u32
     requires { ⌜ (3472275312702652416 ≤ b) × (b < 5760103923406864384) ⌝ }
     ensures { λ r. ⌜ (0 < r → NarrowRoot b r) ⌝ }
 {
-    let k = b / 0x10_0000_0000_0000 - 1;
-    let m = b % 0x10_0000_0000_0000 + 0x10_0000_0000_0000;
     let y = near_root(b);
+    // the bits above the least such b; its exponent is odd
+    let t = b - 0x3030_0000_0000_0000;
+    let m = t % 0x10_0000_0000_0000 + 0x10_0000_0000_0000;
+    let k = t / 0x10_0000_0000_0000;
     if is_near(m * (k % 2 + 1), y) {
-        let r = (k / 2 - 385) * 0x80_0000 + y;
+        let r = k / 2 * 0x80_0000 + y;
         return r as u32;
     }
     0
 }
 
-// The f32 nearest to the f64 nearest to the square root of x. Where it is an f32 of 24 digits, it
-// is guessed, and the guess is good but for one in a million.
+// The f32 nearest to the f64 nearest to the square root of x. Most are guessed and checked by one
+// square, with no division; one in a hundred thousand of them is then worked out all the same.
 pub fn narrow_root(x: f64) -> f32
     ensures { λ r. ⌜ r ≡ narrowOf (rootOf x) ⌝ }
 {

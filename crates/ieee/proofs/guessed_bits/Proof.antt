@@ -1,5 +1,6 @@
--- `ieee::guessed_bits` meets its contract: a guess that `is_near` has passed is the narrowed root's digits, by `guessed`.
+-- `ieee::guessed_bits` meets its contract: a guess that `is_near` has passed is the digits of the narrowed root, by `guessed`.
 -- Assumes nothing.
+use Prim.Native.Nat.{ℕ, _-_}
 use native.Mathlib.Nat.{lt-irrefl}
 use native.Mathlib.Omega.{arith}
 use Rattle.ieee.proofs.Guessed.{operand-in, guessed}
@@ -7,26 +8,23 @@ use borrow.Author.Needs.{needs}
 use Rattle.ieee.proofs.guessed_bits.Statement.{statement}
 use Rattle.ieee.proofs.guessed_bits.Tie as tie
 
-sub-k : tie.Need-sub-k
-sub-k c = search needs
+near-root-requires : tie.Need-near-root-requires
+near-root-requires c κs = search needs
+
+sub-t : tie.Need-sub-t
+sub-t c = search needs
 
 add-m : tie.Need-add-m
 add-m c = search needs
-
-near-root-requires : tie.Need-near-root-requires
-near-root-requires c κs = search needs
 
 add-is-near : tie.Need-add-is-near
 add-is-near c = search needs
 
 mul-is-near : tie.Need-mul-is-near
-mul-is-near c = record { fits = omega (arith, operand-in (c .before .args .b) .1) }
+mul-is-near c = record { fits = omega (arith, operand-in (c .before .args .b - 3472275312702652416) .1) }
 
 is-near-requires : tie.Need-is-near-requires
-is-near-requires c κs = (operand-in (c .before .args .b) .1, c .near-root .ensures)
-
-sub-r : tie.Need-sub-r
-sub-r c = search needs
+is-near-requires c κs = (operand-in (c .before .args .b - 3472275312702652416) .1, c .near-root .ensures .0, c .near-root .ensures .1)
 
 mul-r : tie.Need-mul-r
 mul-r c = search needs
@@ -40,7 +38,8 @@ cast-result c = search needs
 returns : tie.Need-returns
 returns c =
     let s = c .before .before .before in
-    λ _. guessed (s .args .b) (c .before .before .near-root .result) (s .pre .0) (s .pre .1) (c .before .is-near .ensures (c .if1 .taken))
+    let y = c .before .before .near-root in
+    λ _. guessed (s .args .b) (y .result) (s .pre .0) (s .pre .1) (y .ensures .1) (c .before .is-near .ensures (c .if1 .taken))
 
 returns-2 : tie.Need-returns-2
 returns-2 c = λ h. absurd (lt-irrefl 0 h)
@@ -49,13 +48,12 @@ pub guessed-bits-spec : {M : Type 1} → statement M
 guessed-bits-spec =
     tie.close
     (tie.spec
-    sub-k
-    add-m
     near-root-requires
+    sub-t
+    add-m
     add-is-near
     mul-is-near
     is-near-requires
-    sub-r
     mul-r
     add-r
     cast-result

@@ -1,4 +1,4 @@
--- `ieee::near_root` meets its contract: both patterns that it reads as floats are no NaN's, and what is left of the bits is below 2 ^ 25.
+-- `ieee::near_root` meets its contract: the patterns that it reads as floats are no NaN's, and 23 digits with a leading one are 24.
 -- Assumes nothing.
 use lib.Ieee.{binary64}
 use native.Mathlib.Omega.{arith}
@@ -8,7 +8,7 @@ use Rattle.ieee.proofs.near_root.Statement.{statement}
 use Rattle.ieee.proofs.near_root.Tie as tie
 
 float-from-bits-x : tie.Need-float-from-bits-x
-float-from-bits-x c = no-nan-bits binary64 (c .args .b) (omega arith)
+float-from-bits-x c = no-nan-bits binary64 _ (omega arith)
 
 sub-r0 : tie.Need-sub-r0
 sub-r0 c = search needs
@@ -19,20 +19,11 @@ float-from-bits-r0 c = no-nan-bits binary64 _ (omega arith)
 returns : tie.Need-returns
 returns c = search needs
 
-sub-g : tie.Need-sub-g
-sub-g c = search needs
+float-to-bits-q : tie.Need-float-to-bits-q
+float-to-bits-q c = no-nan _ (c .if1 .left)
 
-add-g : tie.Need-add-g
-add-g c = search needs
-
-mul-up : tie.Need-mul-up
-mul-up c = search needs
-
-sub-up : tie.Need-sub-up
-sub-up c = search needs
-
-float-to-bits-result : tie.Need-float-to-bits-result
-float-to-bits-result c = no-nan _ (c .if1 .left)
+add-q : tie.Need-add-q
+add-q c = search needs
 
 add-result : tie.Need-add-result
 add-result c = search needs
@@ -48,10 +39,7 @@ near-root-spec =
     sub-r0
     float-from-bits-r0
     returns
-    sub-g
-    add-g
-    mul-up
-    sub-up
-    float-to-bits-result
+    float-to-bits-q
+    add-q
     add-result
     returns-2)
