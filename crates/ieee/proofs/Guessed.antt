@@ -2,11 +2,10 @@
 -- a * 2 ^ 52, of 53 digits, lies between 8 * y - 4 and 8 * y + 4 times 2 ^ 26 (`enclosed`). These are the points halfway from y * 2 ^ 29 to
 -- the multiples of 2 ^ 29 beside it, so the root narrows to the digits y.
 -- Assumes nothing.
-use mathlib.Core.Path.{_≡_, refl, sym, ap, _∙_, subst}
+use mathlib.Core.Path.{_≡_, sym, ap, _∙_, subst}
 use mathlib.Core.Bool.{Bool, true, false, not}
 use Prim.Native.Nat.{ℕ, zero, suc, _+_, _-_, _*_, _/_, _%_, _^_, _≤_, _<_}
-use native.Mathlib.Nat.{lt-of-le-of-lt, lt-of-not-le, zero-add, mul-one, mul-mul-mul-comm, mul-add, add-mul, mul-le-mul, mul-le-mul-right}
-use native.Mathlib.Numerals.{add-one}
+use native.Mathlib.Nat.{lt-of-le-of-lt, lt-of-not-le, zero-add, mul-one, mul-mul-mul-comm, mul-add, add-mul, mul-le-mul}
 use native.Mathlib.Omega.{arith}
 use lib.Dec.{T, ltb, ltb→lt, nltb→le, lit≤}
 use lib.Ieee.{binary32, binary64, ofBits}
@@ -14,8 +13,8 @@ use lib.Ieee.Nearest.{closest}
 use Rattle.ieee.specs.Numbers.{le-of-next}
 use Rattle.ieee.specs.Root.{more, wholeRoot, rootUnits, rootOf}
 use Rattle.ieee.specs.Narrow.{narrowOf}
-use Rattle.ieee.specs.Inner.{Rooted, Lifted, RootBits, Narrowed, Near, NarrowRoot}
-use Rattle.ieee.specs.WholeRoot.{IsRoot, whole-root, square-back}
+use Rattle.ieee.specs.Inner.{Rooted, Lifted, Narrowed, Near, NarrowRoot}
+use Rattle.ieee.specs.WholeRoot.{whole-root, square-back}
 use Rattle.ieee.proofs.Finished.{Long, nearest-in, finished, half}
 use Rattle.ieee.proofs.Cases.{root-mid}
 use Rattle.ieee.proofs.Narrowing.{narrow-normal, closest-29}

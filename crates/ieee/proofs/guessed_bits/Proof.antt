@@ -1,6 +1,6 @@
 -- `ieee::guessed_bits` meets its contract: a guess that `is_near` has passed is the digits of the narrowed root, by `guessed`.
 -- Assumes nothing.
-use Prim.Native.Nat.{ℕ, _-_}
+use Prim.Native.Nat.{_-_}
 use native.Mathlib.Nat.{lt-irrefl}
 use native.Mathlib.Omega.{arith}
 use Rattle.ieee.proofs.Guessed.{operand-in, guessed}

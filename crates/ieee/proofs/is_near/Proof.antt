@@ -44,7 +44,7 @@ returns-2 c =
     let a = c .before .args .a in
     let y = c .before .args .y in
     let h = 8 * y + 4 in
-    λ e. record { low = lower a h (8 * y - 4) (omega arith) (leb→le (h * h + 68) (a + 16 * h) (subst T (sym e) tt)); high = c .if1 .left }
+    λ e. record { low = lower a h (8 * y - 4) (omega arith) (leb→le (h * h + 68) (a + 16 * h) (subst T (sym e) tt)); high = omega (arith, c .if1 .left) }
 
 pub is-near-spec : {M : Type 1} → statement M
 is-near-spec =

@@ -5,7 +5,7 @@ use mathlib.Core.Path.{_≡_, sym, subst, ap, _∙_}
 use mathlib.Core.Bool.{true, not}
 use native.Mathlib.Omega.{arith}
 use lib.Dec.{T}
-use lib.Ieee.{Float, nan, inf, fin, binary32, binary64, eq, isNan, fits, ofBits, toBits}
+use lib.Ieee.{Float, nan, inf, fin, binary32, binary64, eq, isNan, fits, toBits}
 use lib.Ieee.Bits.{ofBits-toBits}
 use Rattle.ieee.specs.Root.{rootOf}
 use Rattle.ieee.specs.Narrow.{narrowOf}
