@@ -228,8 +228,9 @@ pub fn narrow(x: f64) -> f32
     f32::from_bits(0x8000_0000 + narrow_bits(b - 0x8000_0000_0000_0000))
 }
 
-// The leading 24 digits of about the root of the number whose bits are b: a guess by three steps of
-// Newton, from half the exponent. Nothing is promised of it; `is_near` tells whether it is good.
+// The leading 24 digits of about the root of the number whose bits are b. Three steps of Newton for a
+// multiple of 1 / root, from half the exponent; the constants make the last answer the root itself.
+// Nothing is promised of the guess: `is_near` tells whether it is good.
 fn near_root(b: u64) -> u64
     requires { ⌜ b < 5760103923406864384 ⌝ }
     ensures { λ y. ⌜ (8388608 ≤ y) × (y < 16777216) ⌝ }
@@ -253,6 +254,7 @@ fn is_near(a: u64, y: u64) -> bool
     requires { ⌜ (a ≤ 18014398509481982) × (8388608 ≤ y) × (y < 16777216) ⌝ }
     ensures { λ r. ⌜ (r ≡ true → Near a y) ⌝ }
 {
+    // the squares of h and of h - 8 enclose a, with 4 to spare
     let h = 8 * y + 4;
     let s = h * h;
     if s < a + 4 {
@@ -279,8 +281,8 @@ fn guessed_bits(b: u64) -> u32
     0
 }
 
-// The f32 nearest to the f64 nearest to the square root of x. Most are guessed and checked by one
-// square, with no division; one in a hundred thousand of them is then worked out all the same.
+// The f32 nearest to the f64 nearest to the square root of x. Where it has 24 digits it is guessed and
+// checked, with no division; one guess in a hundred thousand is no good.
 pub fn narrow_root(x: f64) -> f32
     ensures { λ r. ⌜ r ≡ narrowOf (rootOf x) ⌝ }
 {
