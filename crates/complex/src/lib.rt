@@ -85,7 +85,7 @@ impl C32 {
     pub fn norm(self) -> f32
         ensures { λ r. ⌜ r ≡ norm32 (of32 self) ⌝ }
     {
-        ieee::narrow(self.widen().norm())
+        ieee::narrow_root(self.widen().norm_sqr())
     }
 
     // The same numbers as f64.

@@ -3,3 +3,4 @@ pub mod RootTable
 pub mod Finished
 pub mod Cases
 pub mod Narrowing
+pub mod Guessed

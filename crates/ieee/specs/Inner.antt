@@ -2,9 +2,9 @@
 -- Definitions only.
 use mathlib.Core.Path.{_≡_}
 use mathlib.Core.Bool.{Bool, cond}
-use Prim.Native.Nat.{ℕ, _+_, _*_, _^_, _≤_, _<_}
+use Prim.Native.Nat.{ℕ, _+_, _-_, _*_, _^_, _≤_, _<_}
 use lib.Ieee.{binary32, binary64, ofBits}
-use Rattle.ieee.specs.Root.{rootUnits}
+use Rattle.ieee.specs.Root.{rootUnits, rootOf}
 use Rattle.ieee.specs.Narrow.{narrowOf}
 
 -- ---- the root by halves
@@ -49,3 +49,15 @@ pub record RootBits (n r : ℕ) : Type 0 where
 pub record Narrowed (b r : ℕ) : Type 0 where
   pub low : r ≤ 2139095040
   pub is : (s : Bool) → ofBits binary32 (cond s 2147483648 0 + r) ≡ narrowOf (ofBits binary64 (cond s 9223372036854775808 0 + b))
+
+-- ---- the narrowed root
+
+-- the root of a lies between the points halfway from 8 * y to the multiples of 8 beside it, and not at them: squared, with 4 to spare
+pub record Near (a y : ℕ) : Type 0 where
+  pub low : (8 * y - 4) * (8 * y - 4) + 4 ≤ a
+  pub high : a + 4 ≤ (8 * y + 4) * (8 * y + 4)
+
+-- r is the f32 pattern of the narrowed root of what the f64 pattern b stands for
+pub record NarrowRoot (b r : ℕ) : Type 0 where
+  pub low : r ≤ 2139095040
+  pub is : ofBits binary32 r ≡ narrowOf (rootOf (ofBits binary64 b))

@@ -4,12 +4,13 @@
 mod seeds;
 
 ghost use mathlib.Core.Path.{_≡_};
+ghost use mathlib.Core.Bool.{true};
 ghost use Prim.Native.Nat.{_+_, _*_, _^_, _≤_, _<_};
 ghost use lib.Ieee.{binary64, ofBits};
 ghost use lib.Ieee.Nearest as Nearest;
 ghost use Rattle.ieee.specs.Root.{rootOf};
 ghost use Rattle.ieee.specs.Narrow.{narrowOf};
-ghost use Rattle.ieee.specs.Inner.{Ready, Refined, Rooted, Lifted, RootBits, Narrowed};
+ghost use Rattle.ieee.specs.Inner.{Ready, Refined, Rooted, Lifted, RootBits, Narrowed, Near, NarrowRoot};
 
 // Where `sum::<f32>()` starts.
 pub const NEGATIVE_ZERO: f32 = -0.0;
@@ -225,4 +226,76 @@ pub fn narrow(x: f64) -> f32
         return f32::from_bits(narrow_bits(b));
     }
     f32::from_bits(0x8000_0000 + narrow_bits(b - 0x8000_0000_0000_0000))
+}
+
+// The leading 24 digits of about the root of the number whose bits are b. Three steps of Newton for a
+// multiple of 1 / root, from half the exponent; the constants make the last answer the root itself.
+// Nothing is promised of the guess: `is_near` tells whether it is good.
+fn near_root(b: u64) -> u64
+    requires { ⌜ b < 5760103923406864384 ⌝ }
+    ensures { λ y. ⌜ (8388608 ≤ y) × (y < 16777216) ⌝ }
+{
+    let x = f64::from_bits(b);
+    let r0 = f64::from_bits(0x5fdf_3d58_0000_0000 - b / 2);
+    let r1 = r0 * (1.54 - x * r0 * r0);
+    let r2 = r1 * (1.62009 - x * r1 * r1);
+    let s = x * r2;
+    let c = s * (1.8898815748423097 - s * r2);
+    if c != c {
+        return 0x80_0000;
+    }
+    // rounded, and without the exponent
+    let q = (f64::to_bits(c) % 0x8000_0000_0000_0000 + 0x1000_0000) / 0x2000_0000;
+    q % 0x80_0000 + 0x80_0000
+}
+
+// Whether the root of a, divided by 8, is clearly nearer to y than to any other whole number.
+fn is_near(a: u64, y: u64) -> bool
+    requires { ⌜ (a ≤ 18014398509481982) × (8388608 ≤ y) × (y < 16777216) ⌝ }
+    ensures { λ r. ⌜ (r ≡ true → Near a y) ⌝ }
+{
+    // the squares of h and of h - 8 enclose a, with 4 to spare
+    let h = 8 * y + 4;
+    let s = h * h;
+    if s < a + 4 {
+        return false;
+    }
+    s + 68 <= a + 16 * h
+}
+
+// The bits of the narrowed root of the number whose bits are b, or 0 where the guess was no good.
+// b is such that the root is an f32 of 24 digits.
+fn guessed_bits(b: u64) -> u32
+    requires { ⌜ (3472275312702652416 ≤ b) × (b < 5760103923406864384) ⌝ }
+    ensures { λ r. ⌜ (0 < r → NarrowRoot b r) ⌝ }
+{
+    let y = near_root(b);
+    // the bits above the least such b; its exponent is odd
+    let t = b - 0x3030_0000_0000_0000;
+    let m = t % 0x10_0000_0000_0000 + 0x10_0000_0000_0000;
+    let k = t / 0x10_0000_0000_0000;
+    if is_near(m * (k % 2 + 1), y) {
+        let r = k / 2 * 0x80_0000 + y;
+        return r as u32;
+    }
+    0
+}
+
+// The f32 nearest to the f64 nearest to the square root of x. Where it has 24 digits it is guessed and
+// checked, with no division; one guess in a hundred thousand is no good.
+pub fn narrow_root(x: f64) -> f32
+    ensures { λ r. ⌜ r ≡ narrowOf (rootOf x) ⌝ }
+{
+    if x == x {
+        let b = f64::to_bits(x);
+        if 0x3030_0000_0000_0000 <= b {
+            if b < 0x4ff0_0000_0000_0000 {
+                let r = guessed_bits(b);
+                if 0 < r {
+                    return f32::from_bits(r);
+                }
+            }
+        }
+    }
+    narrow(root(x))
 }
