@@ -60,23 +60,23 @@ allIn-stop f t i h e = rw (drop-cons t i 0 h, e)
 pub allIn-pass : (f : ℕ → Bool) (t : List ℕ) (i : ℕ) → i < length t → f (getD t i 0) ≡ true → allIn f (drop i t) ≡ allIn f (drop (i + 1) t)
 allIn-pass f t i h e = rw (drop-cons t i 0 h, e, add-one)
 
--- so the walk at i: those before i passed, and the rest decides
-pub record Walked (f : ℕ → Bool) (t : List ℕ) (i : ℕ) : Type 0 where
+-- so the walk that began at `from` and is at i: those passed by are good, and the rest decides
+pub record Walked (f : ℕ → Bool) (t : List ℕ) (from i : ℕ) : Type 0 where
   pub inside : i ≤ length t
-  pub rest : allIn f t ≡ allIn f (drop i t)
+  pub rest : allIn f (drop from t) ≡ allIn f (drop i t)
 
-module _ (f : ℕ → Bool) (t : List ℕ) where
-  pub walk-begins : Walked f t 0
-  walk-begins = record { inside = omega arith; rest = refl }
+module _ (f : ℕ → Bool) (t : List ℕ) (from : ℕ) where
+  pub walk-begins : from ≤ length t → Walked f t from from
+  walk-begins h = record { inside = h; rest = refl }
 
-  module _ {i : ℕ} (w : Walked f t i) where
-    pub walk-stops : i < length t → f (getD t i 0) ≡ false → false ≡ allIn f t
+  module _ {i : ℕ} (w : Walked f t from i) where
+    pub walk-stops : i < length t → f (getD t i 0) ≡ false → false ≡ allIn f (drop from t)
     walk-stops h e = sym (w .rest ∙ allIn-stop f t i h e)
 
-    pub walk-goes-on : i < length t → f (getD t i 0) ≡ true → Walked f t (i + 1)
+    pub walk-goes-on : i < length t → f (getD t i 0) ≡ true → Walked f t from (i + 1)
     walk-goes-on h e = record { inside = omega arith; rest = w .rest ∙ allIn-pass f t i h e }
 
-    pub walk-ends : length t ≤ i → true ≡ allIn f t
+    pub walk-ends : length t ≤ i → true ≡ allIn f (drop from t)
     walk-ends h = sym (w .rest ∙ ap (allIn f) (drop-of-length-le t h))
 
 -- two functions whose values below n antt finds alike agree at each number below n

@@ -11,13 +11,13 @@ use Rattle.guess.proofs.are_codes.Statement.{statement}
 use Rattle.guess.proofs.are_codes.Tie as tie
 
 abbrev Inv-loop : tie.InvT-loop
-Inv-loop codes list i₀ i = Walked (isCode codes) list i
+Inv-loop codes list i₀ i = Walked (isCode codes) list 0 i
 
 abbrev μ-loop : tie.MeasureT-loop
 μ-loop codes list i₀ i = length list - i
 
 loop-holds : tie.Need-loop-holds Inv-loop μ-loop
-loop-holds c = walk-begins _ _
+loop-holds c = walk-begins _ _ 0 (search needs)
 
 shared-slice-read-is-code : tie.Need-shared-slice-read-is-code Inv-loop μ-loop
 shared-slice-read-is-code c = search needs
@@ -28,7 +28,7 @@ is-code-requires c κs = search needs
 returns : tie.Need-returns Inv-loop μ-loop
 returns c =
     let t = c .before .before .before in
-    walk-stops _ _ (t .before .loop .inv) (t .loop-test .taken) (sym (c .before .is-code .ensures) ∙ not-true _ (c .if1 .taken))
+    walk-stops _ _ 0 (t .before .loop .inv) (t .loop-test .taken) (sym (c .before .is-code .ensures) ∙ not-true _ (c .if1 .taken))
 
 add-i : tie.Need-add-i Inv-loop μ-loop
 add-i c = search needs
@@ -39,10 +39,10 @@ loop-less c = search needs
 loop-again : tie.Need-loop-again Inv-loop μ-loop
 loop-again c =
     let t = c .before .before .before in
-    walk-goes-on _ _ (t .before .loop .inv) (t .loop-test .taken) (sym (c .before .is-code .ensures) ∙ not-false _ (c .if1 .left))
+    walk-goes-on _ _ 0 (t .before .loop .inv) (t .loop-test .taken) (sym (c .before .is-code .ensures) ∙ not-false _ (c .if1 .left))
 
 returns-2 : tie.Need-returns-2 Inv-loop μ-loop
-returns-2 c = walk-ends _ _ (c .before .loop .inv) (c .loop-test .left)
+returns-2 c = walk-ends _ _ 0 (c .before .loop .inv) (c .loop-test .left)
 
 pub are-codes-spec : {M : Type 1} → statement M
 are-codes-spec =
