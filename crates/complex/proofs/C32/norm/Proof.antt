@@ -7,7 +7,7 @@ use lib.Ieee.{Float, nan, inf, fin, Format, binary32, binary64, ofBits, add, mul
 use lib.Ieee.Compare.{differs-from-itself}
 use Rattle.ieee.specs.Root.{rootOf}
 use Rattle.ieee.specs.Narrow.{narrowOf}
-use Rattle.ieee.proofs.Cases.{no-nan}
+use Rattle.ieee.specs.Order.{no-nan}
 use Rattle.complex.specs.Complex.{pair, squaredSize, norm64, norm32}
 use borrow.Author.Needs.{needs}
 use Rattle.complex.proofs.C32.norm.Statement.{statement}
