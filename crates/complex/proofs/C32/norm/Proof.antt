@@ -52,10 +52,10 @@ returns-2 c =
     zero-by-zero ∙ norm-nan _ (from-im (x .re) (x .im) (is-nan (x .im) (c .if2 .taken)))
 
 float-to-float-new : tie.Need-float-to-float-new
-float-to-float-new c = let h = no-nan _ (c .before .before .before .if1 .left) in search needs
+float-to-float-new c = let h = no-nan _ (c .before .before .before .if1 .left) in let k = no-nan _ (c .before .if2 .left) in search needs
 
 float-to-float-new-2 : tie.Need-float-to-float-new-2
-float-to-float-new-2 c = let h = no-nan _ (c .before .before .if2 .left) in search needs
+float-to-float-new-2 c = let h = no-nan _ (c .before .before .before .before .if1 .left) in let k = no-nan _ (c .before .before .if2 .left) in search needs
 
 new-requires : tie.Need-new-requires
 new-requires c κs = search needs
