@@ -81,11 +81,19 @@ impl C32 {
         }
     }
 
-    // Squares and sum in f64, where they neither overflow nor round to zero.
+    // Squares and sum in f64, where they neither overflow nor round to zero. The tests for NaN take
+    // less time than `widen`, which keeps it.
     pub fn norm(self) -> f32
         ensures { λ r. ⌜ r ≡ norm32 (of32 self) ⌝ }
     {
-        ieee::narrow_root(self.widen().norm_sqr())
+        if self.re != self.re {
+            return 0.0 / 0.0;
+        }
+        if self.im != self.im {
+            return 0.0 / 0.0;
+        }
+        let x = C64::new(self.re as f64, self.im as f64);
+        ieee::narrow_root(x.norm_sqr())
     }
 
     // The same numbers as f64.

@@ -10,8 +10,7 @@ use native.Mathlib.Omega.{arith}
 use lib.Dec.{T, nltb→le}
 use lib.Arith.{le→nltb}
 use lib.Pow.{pow-pos}
-use lib.Ieee.{Float, nan, inf, fin, Format, binary64, ne, div, fits, isNan, hid, ones, top, ofBits, toBits, nanBits}
-use lib.Ieee.Compare.{nan-differs}
+use lib.Ieee.{Float, nan, Format, binary64, div, fits, isNan, hid, ones, top, ofBits, toBits, nanBits}
 use lib.Ieee.Bits.{ofBits-toBits, nanBits-is, nanBits-above}
 use lib.Ieee.Exact.{HasValue}
 use Rattle.ieee.specs.Root.{rootUnits, rootOf}
@@ -19,12 +18,6 @@ use Rattle.ieee.specs.Patterns.{value-low, value-mid}
 use Rattle.ieee.specs.RootUnits.{root-of-value, root-of-negative}
 
 -- ---- NaN or not
-pub no-nan : (x : Float) → ne x x ≡ false → T (not (isNan x))
-unfolding isNan
-no-nan nan e = subst T (sym nan-differs ∙ e) tt
-no-nan (inf s) e = tt
-no-nan (fin s m e) d = tt
-
 -- a pattern up to the infinity's, with any sign, is no NaN's
 pub no-nan-bits : (f : Format) (n : ℕ) → n % top f ≤ ones f * hid f → T (not (nanBits f n))
 no-nan-bits f n h = subst (λ (b : Bool). T (not b)) (sym (nanBits-above f n)) (le→nltb (ones f * hid f) (n % top f) h)

@@ -46,6 +46,13 @@ pub nan-ne : (x : Float) → ne nan x ≡ true
 unfolding ne
 nan-ne x = refl
 
+-- what does not differ from itself is none
+pub no-nan : (x : Float) → ne x x ≡ false → T (not (isNan x))
+unfolding isNan
+no-nan nan e = subst T (sym (nan-ne nan) ∙ e) tt
+no-nan (inf s) e = tt
+no-nan (fin s m e) d = tt
+
 false-of : (b : Bool) → (T b → ⊥) → b ≡ false
 false-of true f = absurd (f tt)
 false-of false f = refl

@@ -237,8 +237,8 @@ fn near_root(b: u64) -> u64
 {
     let x = f64::from_bits(b);
     let r0 = f64::from_bits(0x5fdf_3d58_0000_0000 - b / 2);
-    let r1 = r0 * (1.54 - x * r0 * r0);
-    let r2 = r1 * (1.62009 - x * r1 * r1);
+    let r1 = 1.54 * r0 - x * r0 * (r0 * r0);
+    let r2 = 1.62009 * r1 - x * r1 * (r1 * r1);
     let s = x * r2;
     let c = s * (1.8898815748423097 - s * r2);
     if c != c {

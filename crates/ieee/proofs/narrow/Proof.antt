@@ -10,7 +10,8 @@ use lib.Ieee.{Float, binary32, binary64, nan, fits, ofBits, toBits, div}
 use lib.Ieee.Bits.{ofBits-toBits, toBits-lt}
 use lib.Ieee.Compare.{differs-from-itself}
 use Rattle.ieee.specs.Narrow.{narrowOf}
-use Rattle.ieee.proofs.Cases.{no-nan, no-nan-bits, bits-in}
+use Rattle.ieee.specs.Order.{no-nan}
+use Rattle.ieee.proofs.Cases.{no-nan-bits, bits-in}
 use borrow.Author.Needs.{needs}
 use Rattle.ieee.proofs.narrow.Statement.{statement}
 use Rattle.ieee.proofs.narrow.Tie as tie

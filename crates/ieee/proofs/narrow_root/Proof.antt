@@ -5,11 +5,12 @@ use mathlib.Core.Path.{_≡_, sym, subst, ap, _∙_}
 use mathlib.Core.Bool.{true, not}
 use native.Mathlib.Omega.{arith}
 use lib.Dec.{T}
-use lib.Ieee.{Float, nan, inf, fin, binary32, binary64, eq, isNan, fits, toBits}
+use lib.Ieee.{Float, binary32, binary64, eq, ne, isNan, fits, toBits}
 use lib.Ieee.Bits.{ofBits-toBits}
 use Rattle.ieee.specs.Root.{rootOf}
 use Rattle.ieee.specs.Narrow.{narrowOf}
 use Rattle.ieee.specs.Inner.{NarrowRoot}
+use Rattle.ieee.specs.Order.{no-nan}
 use Rattle.ieee.proofs.Cases.{no-nan-bits}
 use borrow.Author.Needs.{needs}
 use Rattle.ieee.proofs.narrow_root.Statement.{statement}
@@ -21,10 +22,8 @@ held c = subst T (sym (c .good .0 .1)) tt
 
 -- what equals itself is no NaN
 number : (x : Float) → eq x x ≡ true → T (not (isNan x))
-unfolding isNan eq
-number nan e = subst T (sym e) tt
-number (inf s) e = tt
-number (fin s m e) d = tt
+unfolding ne
+number x e = no-nan x (ap not e)
 
 answer : (c : tie.Then4) → NarrowRoot (toBits binary64 (c .before .before .before .before .before .args .x)) (c .before .guessed-bits .result)
 answer c = c .before .guessed-bits .ensures (c .if4 .taken)

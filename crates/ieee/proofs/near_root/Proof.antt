@@ -2,7 +2,8 @@
 -- Assumes nothing.
 use lib.Ieee.{binary64}
 use native.Mathlib.Omega.{arith}
-use Rattle.ieee.proofs.Cases.{no-nan, no-nan-bits}
+use Rattle.ieee.specs.Order.{no-nan}
+use Rattle.ieee.proofs.Cases.{no-nan-bits}
 use borrow.Author.Needs.{needs}
 use Rattle.ieee.proofs.near_root.Statement.{statement}
 use Rattle.ieee.proofs.near_root.Tie as tie

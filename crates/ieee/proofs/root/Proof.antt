@@ -9,7 +9,8 @@ use lib.Ieee.Bits.{ofBits-toBits, toBits-lt}
 use lib.Ieee.Compare.{differs-from-itself}
 use native.Mathlib.Omega.{arith}
 use Rattle.ieee.specs.Root.{rootOf}
-use Rattle.ieee.proofs.Cases.{no-nan, no-nan-bits, bits-in, root-negative, root-same, same-zero, same-minus, same-inf, root-nan, zero-by-zero}
+use Rattle.ieee.specs.Order.{no-nan}
+use Rattle.ieee.proofs.Cases.{no-nan-bits, bits-in, root-negative, root-same, same-zero, same-minus, same-inf, root-nan, zero-by-zero}
 use borrow.Author.Needs.{needs}
 use Rattle.ieee.proofs.root.Statement.{statement}
 use Rattle.ieee.proofs.root.Tie as tie
