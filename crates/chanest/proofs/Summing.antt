@@ -1,0 +1,55 @@
+-- What the loops keep that sum pairs: the sum so far is that of the first i. And what the sums are.
+-- Assumes nothing.
+use Prim.Native.Nat.{ℕ, _+_, _≤_, _<_}
+use mathlib.Core.List.{List, [], _∷_, map}
+use mathlib.Core.Path.{_≡_, _∙_}
+use native.Mathlib.Numerals.{add-one}
+use native.Mathlib.Omega.{arith}
+use lib.Dec.{T, le→leb}
+use lib.IntN.{pos}
+use lib.Ieee.{Float, binary32, ofInt, inFloat}
+use Rattle.lists.specs.Lists.{upTo}
+use Rattle.lists.specs.Select.{length-upTo, map-upTo}
+use Rattle.ieee.specs.Constants.{plusZero}
+use Rattle.complex.specs.Complex.{Pair, pair, plus, divided}
+use Rattle.complex.specs.Totals.{totals, totals-append}
+use Rattle.chanest.specs.Line.{point, meanPair, leaning, slopeSum}
+use Rattle.chanest.specs.Window.{offsetOf, pointsIn}
+use Rattle.chanest.specs.Inner.{valueIn}
+
+abbrev sumOf : (ℕ → Pair) → ℕ → Pair
+sumOf f n = totals binary32 (pair (plusZero binary32) (plusZero binary32)) (upTo f n)
+
+pub record Summed (f : ℕ → Pair) (n i : ℕ) (sum : Pair) : Type 0 where
+  pub passed : i ≤ n
+  pub so-far : sum ≡ sumOf f i
+
+module _ (f : ℕ → Pair) (n : ℕ) (sum : Pair) where
+  pub begin : sum ≡ pair (plusZero binary32) (plusZero binary32) → Summed f n 0 sum
+  unfolding totals
+  begin e = record { passed = omega arith; so-far = e }
+
+  pub further : (i : ℕ) (v next : Pair) → Summed f n i sum → i < n → v ≡ f i → next ≡ plus binary32 sum v → Summed f n (i + 1) next
+  unfolding totals
+  further i v next s h e q = record { passed = omega arith; so-far = rw (add-one, totals-append binary32 _ (upTo f i) (f i ∷ []), q, e, s .so-far) }
+
+  pub done : (i : ℕ) → Summed f n i sum → n ≤ i → sum ≡ sumOf f n
+  done i s h = let e : i ≡ n = omega arith in rw e at (s .so-far)
+
+-- so few are a whole f32
+pub whole : (n : ℕ) → n ≤ 1024 → T (inFloat binary32 (pos n))
+unfolding inFloat
+whole n h = le→leb n 16777216 (omega arith)
+
+-- the mean of n values, and their slope sum
+module _ (h : ℕ → ℕ) (n : ℕ) (sum : Pair) where
+  pub mean-is : (g : ℕ → Pair) → sum ≡ sumOf (λ i. g (h i)) n → divided binary32 sum (ofInt binary32 (pos n)) ≡ meanPair (map g (upTo h n))
+  unfolding meanPair
+  mean-is g e = rw (map-upTo g h n, length-upTo (λ i. g (h i)) n, e)
+
+  pub slope-is : (xm : Float) (vm : Pair) (len : ℕ) (xs : List Float) (t k : ℕ) (inverse : Float)
+      → sum ≡ sumOf (λ i. leaning xm vm (point (offsetOf t (h i)) (valueIn len xs k inverse (h i)))) n
+      → sum ≡ slopeSum xm vm (pointsIn len xs t k inverse (upTo h n))
+  unfolding slopeSum pointsIn
+  slope-is xm vm len xs t k inverse e =
+      e ∙ rw (map-upTo (λ s. point (offsetOf t s) (valueIn len xs k inverse s)) h n, map-upTo (leaning xm vm) _ n)
