@@ -1,2 +1,3 @@
 pub mod Carriers
 pub mod Summing
+pub mod Fitted

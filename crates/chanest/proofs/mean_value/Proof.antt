@@ -72,7 +72,7 @@ unscale-requires c κs = search needs
 returns : tie.Need-returns Inv-loop μ-loop
 returns c =
     let l = c .before .before .before .before in
-    c .unscale .ensures ∙ mean-is _ _ _ _ (done _ _ _ (l .loop .i) (l .loop .inv) (c .before .before .if1 .left))
+    c .unscale .ensures ∙ mean-is (l .before .before .before .args .sent) _ _ (done _ _ _ (l .loop .i) (l .loop .inv) (c .before .before .if1 .left))
 
 pub mean-value-spec : {M : Type 1} → statement M
 mean-value-spec =
