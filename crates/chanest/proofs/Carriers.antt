@@ -1,6 +1,6 @@
 -- A carrier of a spectrum of the window lies within the window's floats.
 -- Assumes nothing.
-use Prim.Native.Nat.{ℕ, suc, _+_, _*_, _≤_, _<_}
+use Prim.Native.Nat.{ℕ, _+_, _*_, _<_}
 use native.Mathlib.Omega.{arith}
 use native.Mathlib.Nat.{suc-mul, mul-comm, mul-le-mul, mul-le-mul-right}
 use Rattle.chanest.specs.declared.Window.{Window}

@@ -1,19 +1,18 @@
 -- What the line is, by how many spectra there are: none, one, or more.
 -- Assumes nothing.
-use Prim.Native.Nat.{ℕ, zero, suc, _+_, _*_, _≤_, _<_}
+use Prim.Native.Nat.{ℕ, _+_, _*_, _<_}
 use mathlib.Core.Bool.{true, false, cond}
 use mathlib.Core.List.{List, [], _∷_, map, map-map}
 use mathlib.Core.Path.{_≡_, refl, _∙_}
 use native.Mathlib.Omega.{arith}
 use lib.ListN.{length, length-map}
 use lib.Ieee.{Float, binary32, sub, le}
-use Rattle.lists.specs.Lists.{upTo}
 use Rattle.lists.specs.Select.{length-upTo}
 use Rattle.ieee.specs.Constants.{plusZero}
 use Rattle.complex.specs.Complex.{Pair, plus, scaled, divided}
 use Rattle.chanest.specs.declared.Sent.{Sent}
 use Rattle.chanest.specs.declared.Times.{Times}
-use Rattle.chanest.specs.Line.{Point, point, xsOf, valuesOf, meanPair, slopeSum, atZero, fitted, lineAtZero}
+use Rattle.chanest.specs.Line.{Point, xsOf, valuesOf, meanPair, slopeSum, atZero, fitted, lineAtZero}
 use Rattle.chanest.specs.Window.{carrierIn, offsetOf, pointsIn, estimateOf}
 use Rattle.chanest.specs.Inner.{spectraOf, valueIn, Timed}
 
@@ -47,7 +46,7 @@ module _ (len : ℕ) (xs : List Float) (t k : ℕ) (inverse : Float) where
   one-is s e = let f : s .first + s .step * 0 ≡ s .first = omega arith in rw (e, f)
 
   module _ (r : Times) (h : 1 < r .sent .count) (timed : Timed t r) (vm : Pair)
-    (m : vm ≡ meanPair (map (valueIn len xs k inverse) (spectraOf (r .sent)))) where
+      (m : vm ≡ meanPair (map (valueIn len xs k inverse) (spectraOf (r .sent)))) where
     line : Pair
     line = cond (le (r .spread) (plusZero binary32)) vm (atZero (r .mean) vm (r .spread) (slopeSum (r .mean) vm (pointsIn len xs t k inverse (spectraOf (r .sent)))))
 

@@ -3,7 +3,6 @@
 use Prim.Native.Nat.{_+_, _-_, _*_}
 use mathlib.Core.Path.{_∙_}
 use native.Mathlib.Omega.{arith}
-use native.Mathlib.Nat.{mul-le-mul}
 use borrow.Author.Needs.{needs}
 use Rattle.complex.specs.Complex.{of32}
 use Rattle.chanest.specs.Inner.{valueIn}
@@ -46,7 +45,7 @@ add-requires : tie.Need-add-requires Inv-loop μ-loop
 add-requires c κs = search needs
 
 add-i : tie.Need-add-i Inv-loop μ-loop
-add-i c = 
+add-i c =
     let t = c .before .before .before .before in
     let l = t .before .before in
     let p = l .before .before .before .pre in
