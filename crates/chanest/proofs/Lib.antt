@@ -1,3 +1,3 @@
 pub mod Carriers
-pub mod Summing
+pub mod PairSums
 pub mod Fitted

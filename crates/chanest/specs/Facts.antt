@@ -8,10 +8,9 @@ use mathlib.Core.Path.{_≡_, refl, sym, ap, _∙_}
 use native.Mathlib.Omega.{arith}
 use native.Mathlib.Decide.{decLt}
 use borrow.Author.Tests.{eqb-true, ltb-true, eq-eqb, ne-eqb, lt-ltb, le-ltb}
-use lib.Dec.{eqb, leb, ltb, lit<}
+use lib.Dec.{eqb, leb, ltb}
 use lib.ListN.{getD, length}
 use lib.Ieee.{Float}
-use Rattle.lists.specs.Refusals.{unless}
 use Rattle.lists.specs.Tests.{agree, both-left, both-right}
 use Rattle.lists.specs.Select.{length-upTo}
 use Rattle.params.specs.declared.Mode.{Mode}
@@ -22,7 +21,8 @@ use Rattle.params.specs.Params.{carriersPerSegment, totalCarriers}
 use Rattle.ofdm.specs.Band.{segmentAt}
 use Rattle.ofdm.specs.Laws.{segment-below}
 use Rattle.complex.specs.Complex.{Pair}
-use Rattle.spectra.specs.Spectra.{pairAt, spectraIn, areSpectra}
+use Rattle.spectra.specs.Spectra.{pairAt, spectraIn}
+use Rattle.spectra.specs.Codes.{unless-passed, spectra-passed}
 use Rattle.spectra.specs.Flat.{length-flat, pair-flat, flat-own}
 use Rattle.frame.specs.declared.CarrierRole.the-variants.{Sp, Cp, EdgeCp}
 use Rattle.frame.specs.Operations.{areKinds}
@@ -32,11 +32,6 @@ use Rattle.frame.specs.OneRole.{map-says}
 use Rattle.chanest.specs.Grid.{segmentPoints, gridPoints, coherentAt, isScattered, isClosing, backOf, scatteredAt, continualAt, gridPoint, gridOf, atLeastOne, grid, windowCode, gridCode, gridLeaves}
 
 -- ---- an accepted call
--- what the later tests of an accepted call say
-passed : (test : Bool) (number later : ℕ) → 0 < number → unless test number later ≡ 0 → (test ≡ true) × (later ≡ 0)
-passed true number later h e = (refl, e)
-passed false number later h e = absurd (omega arith)
-
 no-closing : (a b c : Bool) → c ≡ false → (a && (b && c)) ≡ false
 no-closing true true c e = e
 no-closing true false c e = refl
@@ -61,13 +56,12 @@ module _ (m : Mode) (phase : ℕ) (kinds : List ℕ) (xs : List Float) (t w : �
   unfolding gridCode windowCode
   whole a =
       let len = totalCarriers m in
-      let kinded = passed (areKinds kinds) 2 _ (lit< tt) a .1 in
-      let phased = passed (ltb phase 4) 3 _ (lit< tt) kinded .1 in
-      let even = passed (areSpectra len (length xs)) 5 _ (lit< tt) phased .1 in
-      let some = passed (ltb 0 (length xs)) 6 _ (lit< tt) even .1 in
-      let current = passed (ltb t (spectraIn len (length xs))) 4 _ (lit< tt) some .1 in
-      let short = passed (leb w 64) 10 _ (lit< tt) current .1 in
-      eqb-true _ _ (passed (eqb (length old) (2 * gridPoints m)) 7 0 (lit< tt) short .0)
+      let kinded = unless-passed (areKinds kinds) 1 _ a in
+      let phased = unless-passed (ltb phase 4) 2 _ (kinded .1) in
+      let spectral = spectra-passed len (length xs) _ (phased .1) in
+      let current = unless-passed (ltb t (spectraIn len (length xs))) 3 _ (spectral .behind) in
+      let short = unless-passed (leb w 64) 9 _ (current .1) in
+      eqb-true _ _ (unless-passed (eqb (length old) (2 * gridPoints m)) 6 0 (short .1) .0)
 
   -- what is left is the grid, or what was lent
   either : (P : List Float → Type 0) → (Accepted → P given) → P old → P left

@@ -6,7 +6,7 @@ use native.Mathlib.Omega.{arith}
 use borrow.Author.Needs.{needs}
 use Rattle.complex.specs.Complex.{of32}
 use Rattle.chanest.specs.Inner.{valueIn}
-use Rattle.chanest.proofs.Summing.{Summed, begin, further, done, whole, mean-is}
+use Rattle.chanest.proofs.PairSums.{Summed, begin, further, done, whole, mean-is}
 use Rattle.chanest.proofs.mean_value.Statement.{statement}
 use Rattle.chanest.proofs.mean_value.Tie as tie
 

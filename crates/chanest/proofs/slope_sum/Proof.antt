@@ -7,7 +7,7 @@ use Rattle.complex.specs.Complex.{of32}
 use Rattle.chanest.specs.Line.{point, leaning}
 use Rattle.chanest.specs.Window.{offsetOf}
 use Rattle.chanest.specs.Inner.{valueIn}
-use Rattle.chanest.proofs.Summing.{Summed, begin, further, done, term-is, slope-is}
+use Rattle.chanest.proofs.PairSums.{Summed, begin, further, done, term-is, slope-is}
 use Rattle.chanest.proofs.slope_sum.Statement.{statement}
 use Rattle.chanest.proofs.slope_sum.Tie as tie
 
