@@ -2,3 +2,4 @@ pub mod Line
 pub mod Window
 pub mod Grid
 pub mod Inner
+pub mod Reaching
