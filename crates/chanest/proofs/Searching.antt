@@ -8,7 +8,7 @@ use native.Mathlib.Omega.{arith}
 use mir.Syntax.{w64}
 use mir.Val.{Fits}
 use Rattle.chanest.specs.declared.Sent.{Sent}
-use Rattle.chanest.specs.Inner.{Searchable, Reached}
+use Rattle.chanest.specs.Inner.{Inside, Searchable, Reached}
 use Rattle.chanest.specs.Reaching.{Met, window}
 
 pub room-fits : (x step : ℕ) → x < 1024 → Fits w64 (x / step + 1)
@@ -94,3 +94,8 @@ module _ (n t before step count : ℕ) (h : Searchable n t before step count) wh
           behind = λ i p q. ⊎-elim (λ a. absurd (omega arith)) (λ a. omega (arith, later i (x / step + 1) (omega arith), k .covered)) w;
         })
         (omega (arith, div-le-self x step)) (omega arith)
+
+-- ---- spectra of a window lie within any larger one
+pub inside-larger : (m n : ℕ) (s : Sent) → m ≤ n → Inside m s → Inside n s
+inside-larger m n s l h =
+    record { inside = λ i p. omega (arith, h .inside i p); few = omega (arith, h .few); start = omega (arith, h .start); near = h .near }

@@ -1,25 +1,20 @@
+-- `chanest::times_at` meets its contract: the spectra found lie in a window of at most 1,024, so their offsets can be summed.
+-- Assumes nothing.
+use native.Mathlib.Omega.{arith}
 use borrow.Author.Needs.{needs}
+use Rattle.chanest.proofs.Searching.{inside-larger}
 use Rattle.chanest.proofs.times_at.Statement.{statement}
 use Rattle.chanest.proofs.times_at.Tie as tie
-use Rattle.chanest.proofs.times_at.Reads as reads
-use Rattle.chanest.proofs.times_at.Lts as lts
-use Rattle.chanest.proofs.mean_offset.Reads as mean-offset-reads
-use Rattle.chanest.proofs.sent_in.Reads as sent-in-reads
-use Rattle.chanest.proofs.spread_about.Reads as spread-about-reads
 
--- src/lib.rt:138:9
 sent-in-requires : tie.Need-sent-in-requires
 sent-in-requires c κs = search needs
 
--- src/lib.rt:139:9
 mean-offset-requires : tie.Need-mean-offset-requires
-mean-offset-requires c κs = ?
+mean-offset-requires c κs = (inside-larger _ 1024 _ (c .before .pre .few) (c .sent-in .ensures .inside), omega arith)
 
--- src/lib.rt:140:9
 spread-about-requires : tie.Need-spread-about-requires
-spread-about-requires c κs = ?
+spread-about-requires c κs = (inside-larger _ 1024 _ (c .before .before .pre .few) (c .before .sent-in .ensures .inside), omega arith)
 
--- src/lib.rt:133:1
 returns : tie.Need-returns
 returns c = search needs
 
