@@ -1,7 +1,6 @@
 -- What `sent_in` works out: how many offsets lie before the window, and how many of the others in it.
 -- Assumes nothing.
 use Prim.Native.Nat.{ℕ, suc, _+_, _-_, _*_, _/_, _≤_, _<_}
-use mathlib.Core.Path.{_≡_}
 use mathlib.Core.Logic.{_⊎_, ⊎-elim}
 use native.Mathlib.Nat.{mul-le-mul-left, lt-mul-div-succ, mul-div-le, div-le-self}
 use native.Mathlib.Omega.{arith}
@@ -42,40 +41,30 @@ module _ (n t before step count : ℕ) (h : Searchable n t before step count) wh
   met : (first s m : ℕ) → Met n t before step count first s m → m ≤ n → first ≤ n → Reached n t before step count (sentFrom first step m)
   met first s m r l f =
       record {
-        spectra = window n t before step count first s m (h .current) r;
+        spectra = window n t before step count first s m r (h .current);
         inside = record { inside = r .inside; few = l; start = f; near = h .near };
       }
 
+  -- none in the window: s offsets before it, the others behind it
+  none : (s : ℕ) → s ≤ count → ((i : ℕ) → i < s → t + step * i < before) → ((i : ℕ) → s ≤ i → i < count → n + before ≤ t + step * i)
+      → Reached n t before step count (sentFrom 0 step 0)
+  none s l a b =
+      met 0 s 0
+      (record {
+        few = omega arith;
+        ahead = a;
+        start = λ p. absurd (omega arith);
+        inside = λ i p. absurd (omega arith);
+        behind = λ i p q. b i (omega arith) q;
+      })
+      (omega arith) (omega arith)
+
   module _ (s : ℕ) (k : Skipped t before step s) where
-    -- number i, from s on, is at least step (i - s) spectra behind the first
-    later : (i j : ℕ) → s + j ≤ i → step * s + step * j ≤ step * i
-    later i j l = omega (arith, mul-le-mul-left step l)
-
-    -- all before the window
     pub all-before : count ≤ s → Reached n t before step count (sentFrom 0 step 0)
-    all-before l =
-        met 0 count 0
-        (record {
-          few = omega arith;
-          ahead = λ i p. k .ahead i (omega arith);
-          start = λ p. absurd (omega arith);
-          inside = λ i p. absurd (omega arith);
-          behind = λ i p q. absurd (omega arith);
-        })
-        (omega arith) (omega arith)
+    all-before l = none count (omega arith) (λ i p. k .ahead i (omega arith)) (λ i p q. absurd (omega arith))
 
-    -- the first in no spectrum before the window's end
     pub all-behind : s < count → n ≤ t + step * s - before → Reached n t before step count (sentFrom 0 step 0)
-    all-behind l b =
-        met 0 s 0
-        (record {
-          few = omega arith;
-          ahead = k .ahead;
-          start = λ p. absurd (omega arith);
-          inside = λ i p. absurd (omega arith);
-          behind = λ i p q. omega (arith, later i 0 p, k .covered, h .current);
-        })
-        (omega arith) (omega arith)
+    all-behind l b = none s (omega arith) (k .ahead) (λ i p q. omega (arith, mul-le-mul-left step p, k .covered, h .current))
 
     -- m of them: as many as there are, or as the window has room for
     pub some-inside : (m : ℕ) → s < count → t + step * s - before < n → m ≤ count - s → m ≤ (n - 1 - (t + step * s - before)) / step + 1
@@ -90,8 +79,12 @@ module _ (n t before step count : ℕ) (h : Searchable n t before step count) wh
           few = omega arith;
           ahead = k .ahead;
           start = λ p. omega (arith, k .covered);
-          inside = λ i p. omega (arith, mul-le-mul-left step (let q : i ≤ x / step = omega arith in q));
-          behind = λ i p q. ⊎-elim (λ a. absurd (omega arith)) (λ a. omega (arith, later i (x / step + 1) (omega arith), k .covered)) w;
+          inside = λ i p. let q : i ≤ x / step = omega arith in omega (arith, mul-le-mul-left step q);
+          behind = λ i p q.
+              ⊎-elim
+              (λ a. absurd (omega arith))
+              (λ a. let z : s + (x / step + 1) ≤ i = omega arith in omega (arith, mul-le-mul-left step z, k .covered))
+              w;
         })
         (omega (arith, div-le-self x step)) (omega arith)
 

@@ -3,7 +3,7 @@
 -- Assumes nothing.
 use Prim.Native.Nat.{ℕ, zero, suc, _+_, _-_, _*_, _≤_, _<_}
 use mathlib.Core.List.{List, [], _∷_, _++_, append-nil}
-use mathlib.Core.Path.{_≡_, refl, sym, ap, _∙_}
+use mathlib.Core.Path.{_≡_, sym, ap, _∙_}
 use native.Mathlib.Decide.{decLt}
 use native.Mathlib.Nat.{add-suc, add-zero}
 use native.Mathlib.Omega.{arith}
@@ -59,7 +59,8 @@ module _ {A : Type 0} (f : A → List ℕ) (d : ℕ → A) where
       ap (λ (c : ℕ). joined f (upTo d c)) e ∙ idle k (n - k) (λ i l m. h i l (omega arith))
 
   -- numbers that give one each
-  joined-each : (g : ℕ → ℕ) (k m : ℕ) → joined f (upTo d k) ≡ [] → ((i : ℕ) → i < m → f (d (k + i)) ≡ g i ∷ []) → joined f (upTo d (k + m)) ≡ upTo g m
+  joined-each : (g : ℕ → ℕ) (k m : ℕ) → joined f (upTo d k) ≡ [] → ((i : ℕ) → i < m → f (d (k + i)) ≡ g i ∷ [])
+      → joined f (upTo d (k + m)) ≡ upTo g m
   joined-each g k zero e h = rw (add-zero k) e
   joined-each g k (suc m) e h =
       rw (add-suc k m) (joined-next (k + m) ∙ rw (h m (omega arith), joined-each g k m e (λ i l. h i (omega arith))))
@@ -72,15 +73,23 @@ pub record Met (n t before step count first skipped m : ℕ) : Type 0 where
   pub inside : (i : ℕ) → i < m → first + step * i < n
   pub behind : (i : ℕ) → skipped + m ≤ i → i < count → n + before ≤ t + step * i
 
-pub window : (n t before step count first skipped m : ℕ) → t < n → Met n t before step count first skipped m
-    → upTo (λ i. first + step * i) m ≡ inWindow n t (offsets before step count)
-unfolding inWindow
-window n t before step count first skipped m current r =
-    let f : ℤ → List ℕ = atOffset n t in
-    let d : ℕ → ℤ = λ i. minus (step * i) before in
-    let none : joined f (upTo d skipped) ≡ [] = joined-idle f d 0 skipped (omega arith) (λ i l h. early n t before (step * i) (r .ahead i h)) in
-    let some : joined f (upTo d (skipped + m)) ≡ upTo (λ i. first + step * i) m =
-        joined-each f d (λ i. first + step * i) skipped m none (λ i h.
-        let e : t + step * (skipped + i) - before ≡ first + step * i = omega (arith, r .start (omega arith)) in
-        reached n t before (step * (skipped + i)) (omega (arith, r .start (omega arith))) (rw e (r .inside i h)) ∙ ap (λ (k : ℕ). k ∷ []) e) in
-    sym (joined-idle f d (skipped + m) count (r .few) (λ i l h. late n t before (step * i) current (r .behind i l h)) ∙ some)
+module _ (n t before step count first skipped m : ℕ) (r : Met n t before step count first skipped m) where
+  abbrev reachedBy : ℕ → List ℕ
+  reachedBy k = joined (atOffset n t) (upTo (λ i. minus (step * i) before) k)
+
+  none-ahead : reachedBy skipped ≡ []
+  none-ahead = joined-idle (atOffset n t) _ 0 skipped (omega arith) (λ i l h. early n t before (step * i) (r .ahead i h))
+
+  one-each : (i : ℕ) → i < m → atOffset n t (minus (step * (skipped + i)) before) ≡ (first + step * i) ∷ []
+  one-each i h =
+      let x : ℕ = step * (skipped + i) in
+      let e : t + x ≡ before + (first + step * i) = omega (arith, r .start (omega arith)) in
+      let f : t + x - before ≡ first + step * i = omega arith in
+      reached n t before x (omega arith) (omega (arith, r .inside i h)) ∙ ap (λ (k : ℕ). k ∷ []) f
+
+  pub window : t < n → upTo (λ i. first + step * i) m ≡ inWindow n t (offsets before step count)
+  unfolding inWindow
+  window current =
+      sym
+      (joined-idle (atOffset n t) _ (skipped + m) count (r .few) (λ i l h. late n t before (step * i) current (r .behind i l h))
+      ∙ joined-each (atOffset n t) _ (λ i. first + step * i) skipped m none-ahead one-each)

@@ -8,9 +8,6 @@ use Rattle.chanest.proofs.Signed.{held-exactly}
 use Rattle.chanest.proofs.Summing.{sumTo, sum-more, sum-done, offsetAt, mean-is}
 use Rattle.chanest.proofs.mean_offset.Statement.{statement}
 use Rattle.chanest.proofs.mean_offset.Tie as tie
-use Rattle.chanest.proofs.mean_offset.Reads as reads
-use Rattle.chanest.proofs.mean_offset.Lts as lts
-use Rattle.chanest.proofs.offset.Reads as offset-reads
 
 abbrev Inv-loop : tie.InvT-loop
 Inv-loop sent t sum₀ i₀ sum i = (i ≤ sent .count) × (sum ≡ sumTo (offsetAt t sent) i)

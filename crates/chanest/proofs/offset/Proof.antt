@@ -4,6 +4,7 @@ use borrow.Author.Needs.{needs}
 use Rattle.chanest.proofs.Signed.{difference-fits, difference-held, difference-is}
 use Rattle.chanest.proofs.offset.Statement.{statement}
 use Rattle.chanest.proofs.offset.Tie as tie
+
 cast-result : tie.Need-cast-result
 cast-result c = search needs
 

@@ -48,7 +48,12 @@ times-at-requires-4 c κs = search needs
 returns : tie.Need-returns
 returns c =
     let e = add-zero (4 * (c .before .before .before .before .args .win .w - 1)) in
-    record { now = rw e (c .before .before .before .times-at .ensures); one = c .before .before .times-at2 .ensures; two = c .before .times-at3 .ensures; three = c .times-at4 .ensures }
+    record {
+      now = rw e (c .before .before .before .times-at .ensures);
+      one = c .before .before .times-at2 .ensures;
+      two = c .before .times-at3 .ensures;
+      three = c .times-at4 .ensures;
+    }
 
 pub scattered-times-spec : {M : Type 1} → statement M
 scattered-times-spec =

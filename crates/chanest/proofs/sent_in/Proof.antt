@@ -1,3 +1,5 @@
+-- `chanest::sent_in` meets its contract: the offsets before the window are skipped, and of the others as many are counted as reach it.
+-- Assumes nothing.
 use mathlib.Core.Logic.{⊎-elim, inl, inr}
 use borrow.Author.Tests.{leb-true, leb-false}
 use native.Mathlib.Omega.{arith}
@@ -8,19 +10,15 @@ use Rattle.chanest.proofs.sent_in.Tie as tie
 use Rattle.chanest.proofs.sent_in.Reads as reads
 use Rattle.chanest.proofs.sent_in.Lts as lts
 
--- src/lib.rt:76:10
 sub-skipped : tie.Need-sub-skipped
 sub-skipped c = search needs
 
--- src/lib.rt:76:10
 add-skipped : tie.Need-add-skipped
 add-skipped c = search needs
 
--- src/lib.rt:76:10
 sub-skipped-2 : tie.Need-sub-skipped-2
 sub-skipped-2 c = search needs
 
--- src/lib.rt:76:9
 div-skipped : tie.Need-div-skipped
 div-skipped c = search needs
 
@@ -34,15 +32,12 @@ skips c =
 mul-first : tie.Need-mul-first
 mul-first c = let k = skips (c .before) in omega (arith, k .near)
 
--- src/lib.rt:78:17
 add-first : tie.Need-add-first
 add-first c = let k = skips (c .before) in omega (arith, k .near)
 
--- src/lib.rt:78:17
 sub-first : tie.Need-sub-first
 sub-first c = skips (c .before) .covered
 
--- src/lib.rt:80:9
 returns : tie.Need-returns
 returns c =
     let j = c .before .before in
@@ -53,34 +48,27 @@ returns c =
     (λ w. all-behind _ _ _ _ _ (s .pre) _ k (w .0 .left) (leb-true _ _ (w .1 .taken)))
     (c .if2 .came)
 
--- src/lib.rt:86:16
 sub-left : tie.Need-sub-left
 sub-left c = search needs
 
--- src/lib.rt:87:17
 sub-room : tie.Need-sub-room
 sub-room c = search needs
 
--- src/lib.rt:87:17
 sub-room-2 : tie.Need-sub-room-2
 sub-room-2 c = omega (arith, leb-false)
 
--- src/lib.rt:87:16
 div-room : tie.Need-div-room
 div-room c = search needs
 
--- src/lib.rt:87:16
 add-room : tie.Need-add-room
 add-room c = room-fits _ _ (omega arith)
 
--- src/lib.rt:69:1
 returns-2 : tie.Need-returns-2
 returns-2 c =
     let e = c .before .before in
     let j = e .before .before .before in
     some-inside _ _ _ _ _ (j .before .pre) _ (skips j) _ (e .before .if2 .left) (leb-false _ _ (e .if3 .left)) (omega arith) (omega arith) (inl (omega arith))
 
--- src/lib.rt:69:1
 returns-3 : tie.Need-returns-3
 returns-3 c =
     let e = c .before .before in

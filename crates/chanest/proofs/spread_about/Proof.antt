@@ -8,9 +8,6 @@ use lib.Ieee.{binary32, sub, mul}
 use Rattle.chanest.proofs.Summing.{sumTo, sum-more, sum-done, squareAt, spread-is}
 use Rattle.chanest.proofs.spread_about.Statement.{statement}
 use Rattle.chanest.proofs.spread_about.Tie as tie
-use Rattle.chanest.proofs.spread_about.Reads as reads
-use Rattle.chanest.proofs.spread_about.Lts as lts
-use Rattle.chanest.proofs.offset.Reads as offset-reads
 
 abbrev Inv-loop : tie.InvT-loop
 Inv-loop sent t mean sum₀ i₀ sum i = (i ≤ sent .count) × (sum ≡ sumTo (squareAt t sent mean) i)

@@ -4,22 +4,16 @@ use mathlib.Core.Path.{_≡_}
 use native.Mathlib.Omega.{arith}
 use Rattle.chanest.proofs.Scattered.at.Statement.{statement}
 use Rattle.chanest.proofs.Scattered.at.Tie as tie
-use Rattle.chanest.proofs.Scattered.at.Reads as reads
-use Rattle.chanest.proofs.Scattered.at.Lts as lts
 
--- src/lib.rt:170:13
 returns : tie.Need-returns
 returns c = record { ago = λ win h. rw (c .before .if1 .taken) (h .now) }
 
--- src/lib.rt:173:13
 returns-2 : tie.Need-returns-2
 returns-2 c = record { ago = λ win h. rw (c .before .if2 .taken) (h .one) }
 
--- src/lib.rt:176:13
 returns-3 : tie.Need-returns-3
 returns-3 c = record { ago = λ win h. rw (c .before .if3 .taken) (h .two) }
 
--- src/lib.rt:165:5
 returns-4 : tie.Need-returns-4
 returns-4 c =
     let b = c .before .before .before .before .args .back in
