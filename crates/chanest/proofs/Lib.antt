@@ -1,3 +1,6 @@
 pub mod Carriers
 pub mod PairSums
 pub mod Fitted
+pub mod Searching
+pub mod Signed
+pub mod Summing

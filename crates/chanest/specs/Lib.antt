@@ -3,3 +3,4 @@ pub mod Window
 pub mod Grid
 pub mod Inner
 pub mod Facts
+pub mod Reaching
