@@ -31,7 +31,6 @@ use Rattle.frame.specs.Rules.{segmentIn}
 use Rattle.frame.specs.OneRole.{map-says}
 use Rattle.chanest.specs.Grid.{segmentPoints, gridPoints, coherentAt, isScattered, isClosing, backOf, scatteredAt, continualAt, gridPoint, gridOf, atLeastOne, grid, windowCode, gridCode, gridLeaves}
 
--- ---- an accepted call
 no-closing : (a b c : Bool) → c ≡ false → (a && (b && c)) ≡ false
 no-closing true true c e = e
 no-closing true false c e = refl
@@ -41,6 +40,7 @@ not-coherent : (kinds : List ℕ) → ((seg : ℕ) → seg < 13 → getD kinds s
 not-coherent kinds h place (yes l) = rw (lt-ltb place 13 l, h (segmentAt place) (segment-below place l))
 not-coherent kinds h place (no g) = rw (le-ltb place 13 (omega arith))
 
+-- ---- what is kept, and what is written
 module _ (m : Mode) (phase : ℕ) (kinds : List ℕ) (xs : List Float) (t w : ℕ) (old : List Float) where
   abbrev Accepted : Type 0
   Accepted = gridCode (Known m) phase kinds (length xs) t w (length old) ≡ 0
@@ -51,7 +51,7 @@ module _ (m : Mode) (phase : ℕ) (kinds : List ℕ) (xs : List Float) (t w : �
   abbrev left : List Float
   left = gridLeaves (Known m) phase kinds xs t w old
 
-  -- it has lent a whole grid
+  -- an accepted call was lent a whole grid
   whole : Accepted → length old ≡ 2 * gridPoints m
   unfolding gridCode windowCode
   whole a =
@@ -191,6 +191,11 @@ module _ (m : Mode) (kinds : List ℕ) (i : ℕ) where
       let kind : segment .kind ≡ Coherent = rw (both-right (ltb (i / segmentPoints m) 13) _ s) in
       segment-byte (i % 4) (placed m i .inside place) ∙ ap roleByte (sp-role m segment (i % 4) _ kind (placed m i .in-phase))
 
+  -- and so it is sent in every spectrum s at one of its offsets from spectrum t, which has the phase `phase`
+  pub scattered-sent : isScattered m kinds i ≡ true → (phase t w j s p : ℕ) → phase < 4 → p < 4
+      → s + (4 * (w - 1) + backOf phase i) ≡ t + 4 * j → (p + t) % 4 ≡ (phase + s) % 4 → getD (bandRoles m p (wide kinds)) (3 * i) 0 ≡ roleByte Sp
+  scattered-sent c phase t w j s p h l o e = let q : p ≡ i % 4 = omega arith in rw q (scattered-role c)
+
   -- a closing point is a continual pilot in every symbol: of the segment above, or the edge
   pub closing-role : isScattered m kinds i ≡ false → isClosing m kinds i ≡ true → (phase : ℕ)
       → getD (bandRoles m phase (wide kinds)) (3 * i) 0 ≡ cond (ltb i (13 * segmentPoints m)) (roleByte Cp) (roleByte EdgeCp)
@@ -212,7 +217,3 @@ module _ (m : Mode) (kinds : List ℕ) (i : ℕ) where
       by (no g) =
           let e : i ≡ 13 * segmentPoints m = omega (arith, placed m i .closes start under) in
           rw (le-ltb i (13 * segmentPoints m) (omega arith)) (edge-byte phase e)
-
--- the symbol to which a point's offsets count, `backOf` symbols ago, had the phase of its pilot
-pub sent-then : (phase i : ℕ) → phase < 4 → (i % 4 + backOf phase i) % 4 ≡ phase
-sent-then phase i h = omega arith
