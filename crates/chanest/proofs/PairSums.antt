@@ -5,9 +5,8 @@ use mathlib.Core.List.{List, [], _∷_, map}
 use mathlib.Core.Path.{_≡_, _∙_}
 use native.Mathlib.Numerals.{add-one}
 use native.Mathlib.Omega.{arith}
-use lib.Dec.{T, le→leb}
 use lib.IntN.{pos}
-use lib.Ieee.{Float, binary32, sub, ofInt, inFloat}
+use lib.Ieee.{Float, binary32, sub, ofInt}
 use Rattle.lists.specs.Lists.{upTo}
 use Rattle.lists.specs.Select.{length-upTo, map-upTo}
 use Rattle.ieee.specs.Constants.{plusZero}
@@ -36,11 +35,6 @@ module _ (f : ℕ → Pair) (n : ℕ) (sum : Pair) where
 
   pub done : (i : ℕ) → Summed f n i sum → n ≤ i → sum ≡ sumOf f n
   done i s h = let e : i ≡ n = omega arith in rw e at (s .so-far)
-
--- so few are a whole f32
-pub whole : (n : ℕ) → n ≤ 1024 → T (inFloat binary32 (pos n))
-unfolding inFloat
-whole n h = le→leb n 16777216 (omega arith)
 
 -- the calls of a turn compute the point's distances from the means, multiplied
 pub term-is : (xm : Float) (vm a b d : Pair) (x : Float) (q : Point) → a ≡ q .value → b ≡ minus binary32 a vm → x ≡ q .x

@@ -1,8 +1,8 @@
 -- Sums of a function's values in order: one value more, and where they end.
 -- Assumes nothing.
-use Prim.Native.Nat.{ℕ, zero, suc, _+_, _*_, _≤_}
-use mathlib.Core.List.{List, [], _∷_, map, map-append}
-use mathlib.Core.Path.{_≡_, refl, sym, ap, _∙_}
+use Prim.Native.Nat.{ℕ, _+_, _*_, _≤_}
+use mathlib.Core.List.{List, [], _∷_, map}
+use mathlib.Core.Path.{_≡_, sym, ap, _∙_}
 use native.Mathlib.Numerals.{add-one}
 use native.Mathlib.Omega.{arith}
 use lib.IntN.{pos}
@@ -11,15 +11,11 @@ use lib.Ieee.{Float, binary32, add, sub, mul, div, ofInt}
 use Rattle.ieee.specs.Constants.{minusZero}
 use Rattle.ieee.specs.Sums.{total, total-append}
 use Rattle.lists.specs.Lists.{upTo}
-use Rattle.lists.specs.Select.{length-upTo}
+use Rattle.lists.specs.Select.{length-upTo, map-upTo}
 use Rattle.chanest.specs.declared.Sent.{Sent}
 use Rattle.chanest.specs.Line.{mean, spread}
 use Rattle.chanest.specs.Window.{offsetOf}
 use Rattle.chanest.specs.Inner.{spectraOf, offsetsOf}
-
-pub map-upTo : {A B : Type 0} (h : A → B) (g : ℕ → A) (n : ℕ) → map h (upTo g n) ≡ upTo (λ i. h (g i)) n
-map-upTo h g zero = refl
-map-upTo h g (suc n) = rw (map-append h (upTo g n) (g n ∷ []), map-upTo h g n)
 
 -- ---- the sum of f's first values
 abbrev pub sumTo : (ℕ → Float) → ℕ → Float

@@ -4,9 +4,11 @@ use Prim.Native.Nat.{_+_, _-_, _*_}
 use mathlib.Core.Path.{_∙_}
 use native.Mathlib.Omega.{arith}
 use borrow.Author.Needs.{needs}
+use lib.IntN.{pos}
 use Rattle.complex.specs.Complex.{of32}
 use Rattle.chanest.specs.Inner.{valueIn}
-use Rattle.chanest.proofs.PairSums.{Summed, begin, further, done, whole, mean-is}
+use Rattle.chanest.proofs.PairSums.{Summed, begin, further, done, mean-is}
+use Rattle.chanest.proofs.Signed.{held-exactly}
 use Rattle.chanest.proofs.mean_value.Statement.{statement}
 use Rattle.chanest.proofs.mean_value.Tie as tie
 
@@ -63,7 +65,7 @@ loop-again c =
 int-to-float-unscale : tie.Need-int-to-float-unscale Inv-loop μ-loop
 int-to-float-unscale c =
     let p = c .before .before .before .before .before .before .pre in
-    whole _ (omega (arith, p .inside .few, p .spanned .few))
+    held-exactly (pos _) (omega (arith, p .inside .few, p .spanned .few))
 
 unscale-requires : tie.Need-unscale-requires Inv-loop μ-loop
 unscale-requires c κs = search needs
