@@ -1,2 +1,3 @@
 pub mod Spectra
 pub mod Changes
+pub mod Flat
