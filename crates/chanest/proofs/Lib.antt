@@ -1,0 +1,4 @@
+-- Laws that belong to no one function.
+pub mod Codes
+pub mod Writing
+pub mod Points

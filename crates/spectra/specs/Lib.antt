@@ -1,3 +1,4 @@
 pub mod Spectra
 pub mod Changes
 pub mod Flat
+pub mod Codes
