@@ -22,7 +22,7 @@ pub nothing : (f : ℕ → Pair) (a : ℕ) (old : List Float) → Written f a a 
 nothing f a old = kept f a a old (λ i l h. absurd (omega arith))
 
 -- one point more
-module _ {f : ℕ → Pair} {a i : ℕ} {old mid now : List Float} {v : Pair} (w : Written f a i old mid) (e : now ≡ withPair mid i v) where
+module _ {f : ℕ → Pair} {a i : ℕ} {old mid now : List Float} (v : Pair) (w : Written f a i old mid) (e : now ≡ withPair mid i v) where
   other : (j : ℕ) → j ≢ i → pairAt now j ≡ pairAt mid j
   other j n = ap (λ (xs : List Float). pairAt xs j) e ∙ pair-with-other mid i j v n
 
