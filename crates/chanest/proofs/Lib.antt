@@ -2,3 +2,4 @@
 pub mod Codes
 pub mod Writing
 pub mod Points
+pub mod Band
