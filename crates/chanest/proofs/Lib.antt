@@ -3,3 +3,5 @@ pub mod Codes
 pub mod Writing
 pub mod Points
 pub mod Band
+pub mod Planning
+pub mod Answers

@@ -95,10 +95,12 @@ loop-again c =
     let f = t .before .before in
     let s = f .before .before .before .before .before .before .before in
     let l : t .before .loop .i ≤ 13 * segmentPoints (s .args .plan .mode) = omega (arith, t .loop-test .taken, f .carriers-per-segment .ensures, s .pre .1) in
-    let e = c .before .before .before .before in
-    (omega (arith, t .before .loop .inv .0), omega (arith, t .loop-test .taken),
-    one-more (of32 (e .estimate-at .result)) (t .before .loop .inv .2) (c .before .before .put-pair .ensures) (t .before .loop .inv .0) (room-there (s .pre .0) l)
-    (by-times (s .args .plan .win) _ (s .args .signs .now) _ (e .before .before .at .ensures .ago _ (s .pre .0 .scattered)) (e .estimate-at .ensures)))
+    let e = c .before .before .before .before in (
+      omega (arith, t .before .loop .inv .0),
+      omega (arith, t .loop-test .taken),
+      one-more (of32 (e .estimate-at .result)) (t .before .loop .inv .2) (c .before .before .put-pair .ensures) (t .before .loop .inv .0) (room-there (s .pre .0) l)
+          (by-times (s .args .plan .win) _ (s .args .signs .now) _ (e .before .before .at .ensures .ago _ (s .pre .0 .scattered)) (e .estimate-at .ensures)),
+    )
 
 same-length : tie.Need-same-length Inv-loop μ-loop
 same-length c = c .before .loop .inv .2 .size
