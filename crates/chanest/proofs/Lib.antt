@@ -1,11 +1,10 @@
-pub mod Carriers
-pub mod PairSums
-pub mod Fitted
+-- Laws that belong to no one function.
 pub mod Searching
 pub mod Signed
 pub mod Summing
--- Laws that belong to no one function.
-pub mod Codes
+pub mod Carriers
+pub mod PairSums
+pub mod Fitted
 pub mod Writing
 pub mod Points
 pub mod Band

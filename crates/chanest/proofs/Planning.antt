@@ -18,7 +18,7 @@ use Rattle.chanest.specs.declared.Window.{Window}
 use Rattle.chanest.specs.declared.Plan.{Plan}
 use Rattle.chanest.specs.Grid.{gridPoints, windowCode, atLeastOne, gridOf, grid}
 use Rattle.chanest.specs.Inner.{Usable, Planned, Spanned, Writable, gridBy}
-use Rattle.chanest.proofs.Codes.{Accepted, accepted}
+use Rattle.chanest.specs.Codes.{Accepted, accepted}
 
 at-least : (w : ℕ) → w ≤ 64 → (0 < atLeastOne w) × (atLeastOne w ≤ 64)
 at-least w h = by (decLt 0 w)

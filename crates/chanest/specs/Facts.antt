@@ -8,7 +8,7 @@ use mathlib.Core.Path.{_≡_, refl, sym, ap, _∙_}
 use native.Mathlib.Omega.{arith}
 use native.Mathlib.Decide.{decLt}
 use borrow.Author.Tests.{eqb-true, ltb-true, eq-eqb, ne-eqb, lt-ltb, le-ltb}
-use lib.Dec.{eqb, leb, ltb}
+use lib.Dec.{eqb, ltb}
 use lib.ListN.{getD, length}
 use lib.Ieee.{Float}
 use Rattle.lists.specs.Tests.{agree, both-left, both-right}
@@ -17,19 +17,20 @@ use Rattle.params.specs.declared.Mode.{Mode}
 use Rattle.params.specs.declared.Mode.the-variants.{M1, M2, M3}
 use Rattle.params.specs.declared.ModeNumber.the-variants.{Known, Unknown}
 use Rattle.params.specs.declared.SegmentKind.the-variants.{Coherent, Differential}
-use Rattle.params.specs.Params.{carriersPerSegment, totalCarriers}
+use Rattle.params.specs.Params.{carriersPerSegment}
 use Rattle.ofdm.specs.Band.{segmentAt}
 use Rattle.ofdm.specs.Laws.{segment-below}
 use Rattle.complex.specs.Complex.{Pair}
-use Rattle.spectra.specs.Spectra.{pairAt, spectraIn}
-use Rattle.spectra.specs.Codes.{unless-passed, spectra-passed}
+use Rattle.spectra.specs.Spectra.{pairAt}
+use Rattle.spectra.specs.Codes.{unless-passed}
 use Rattle.spectra.specs.Flat.{length-flat, pair-flat, flat-own}
 use Rattle.frame.specs.declared.CarrierRole.the-variants.{Sp, Cp, EdgeCp}
 use Rattle.frame.specs.Operations.{areKinds}
 use Rattle.frame.specs.Roles.{OfdmSegment, roleByte, placeRole, bandRoles, wideSegment, wide}
 use Rattle.frame.specs.Rules.{segmentIn}
 use Rattle.frame.specs.OneRole.{map-says}
-use Rattle.chanest.specs.Grid.{segmentPoints, gridPoints, coherentAt, isScattered, isClosing, backOf, scatteredAt, continualAt, gridPoint, gridOf, atLeastOne, grid, windowCode, gridCode, gridLeaves}
+use Rattle.chanest.specs.Grid.{segmentPoints, gridPoints, coherentAt, isScattered, isClosing, backOf, scatteredAt, continualAt, gridPoint, gridOf, atLeastOne, grid, gridCode, gridLeaves}
+use Rattle.chanest.specs.Codes.{accepted}
 
 no-closing : (a b c : Bool) → c ≡ false → (a && (b && c)) ≡ false
 no-closing true true c e = e
@@ -53,15 +54,8 @@ module _ (m : Mode) (phase : ℕ) (kinds : List ℕ) (xs : List Float) (t w : �
 
   -- an accepted call was lent a whole grid
   whole : Accepted → length old ≡ 2 * gridPoints m
-  unfolding gridCode windowCode
-  whole a =
-      let len = totalCarriers m in
-      let kinded = unless-passed (areKinds kinds) 1 _ a in
-      let phased = unless-passed (ltb phase 4) 2 _ (kinded .1) in
-      let spectral = spectra-passed len (length xs) _ (phased .1) in
-      let current = unless-passed (ltb t (spectraIn len (length xs))) 3 _ (spectral .behind) in
-      let short = unless-passed (leb w 64) 9 _ (current .1) in
-      eqb-true _ _ (unless-passed (eqb (length old) (2 * gridPoints m)) 6 0 (short .1) .0)
+  unfolding gridCode
+  whole a = accepted m phase (length xs) t w (length old) (unless-passed (areKinds kinds) 1 _ a .1) .room
 
   -- what is left is the grid, or what was lent
   either : (P : List Float → Type 0) → (Accepted → P given) → P old → P left
@@ -72,9 +66,9 @@ module _ (m : Mode) (phase : ℕ) (kinds : List ℕ) (xs : List Float) (t w : �
       by true e = new (eqb-true _ _ e)
       by false e = same
 
-  accepted : Accepted → left ≡ given
+  left-given : Accepted → left ≡ given
   unfolding gridLeaves
-  accepted a = rw (eq-eqb _ _ a)
+  left-given a = rw (eq-eqb _ _ a)
 
   given-length : length given ≡ 2 * gridPoints m
   unfolding gridOf
@@ -100,11 +94,11 @@ module _ (m : Mode) (phase : ℕ) (kinds : List ℕ) (xs : List Float) (t w : �
     -- the others hold what their pilots give
     pub scattered-written : Accepted → isScattered m kinds i ≡ true → pairAt left i ≡ scatteredAt m phase xs t (atLeastOne w) i
     unfolding gridPoint
-    scattered-written a s = ap (λ (z : List Float). pairAt z i) (accepted a) ∙ (given-at i h ∙ rw s)
+    scattered-written a s = ap (λ (z : List Float). pairAt z i) (left-given a) ∙ (given-at i h ∙ rw s)
 
     pub closing-written : Accepted → isScattered m kinds i ≡ false → isClosing m kinds i ≡ true → pairAt left i ≡ continualAt m xs t (atLeastOne w) i
     unfolding gridPoint
-    closing-written a s c = ap (λ (z : List Float). pairAt z i) (accepted a) ∙ (given-at i h ∙ rw (s, c))
+    closing-written a s c = ap (λ (z : List Float). pairAt z i) (left-given a) ∙ (given-at i h ∙ rw (s, c))
 
   -- where no segment is coherent, the grid is bit for bit what was lent
   pub none-coherent : ((place : ℕ) → coherentAt kinds place ≡ false) → left ≡ old

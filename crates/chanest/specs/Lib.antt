@@ -2,5 +2,6 @@ pub mod Line
 pub mod Window
 pub mod Grid
 pub mod Inner
-pub mod Facts
+pub mod Codes
 pub mod Reaching
+pub mod Facts

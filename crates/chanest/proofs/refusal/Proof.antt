@@ -3,7 +3,7 @@
 use native.Mathlib.Omega.{arith}
 use borrow.Author.Needs.{needs}
 use Rattle.params.specs.Laws.{sized}
-use Rattle.chanest.proofs.Codes.{by-phase, by-spectra, by-index, by-window, by-length, by-none}
+use Rattle.chanest.specs.Codes.{by-phase, by-spectra, by-index, by-window, by-length, by-none}
 use Rattle.chanest.proofs.refusal.Statement.{statement}
 use Rattle.chanest.proofs.refusal.Tie as tie
 
