@@ -1,6 +1,6 @@
 -- Long sums of pairs: each part is the long sum of the parts, so what holds of those (`Rattle.ieee.specs.Sums`) holds of it.
 -- Assumes nothing.
-use mathlib.Core.List.{List, [], _∷_, map}
+use mathlib.Core.List.{List, [], _∷_, _++_, map}
 use mathlib.Core.Path.{_≡_, refl}
 use Prim.Native.Nat.{ℕ, _+_, _≤_}
 use lib.Dec.{T}
@@ -15,6 +15,12 @@ use Rattle.complex.specs.Gains.{BothScaled}
 unfoldable pub totals : Format → Pair → List Pair → Pair
 totals f s [] = s
 totals f s (x ∷ xs) = totals f (plus f s x) xs
+
+-- a sum goes on where it stopped
+pub totals-append : (f : Format) (s : Pair) (xs ys : List Pair) → totals f s (xs ++ ys) ≡ totals f (totals f s xs) ys
+unfolding totals
+totals-append f s [] ys = refl
+totals-append f s (x ∷ xs) ys = totals-append f (plus f s x) xs ys
 
 abbrev pub reals : List Pair → List Float
 reals xs = map (λ (x : Pair). x .re) xs

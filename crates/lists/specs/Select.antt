@@ -3,7 +3,7 @@
 -- Assumes nothing.
 use Prim.Native.Nat.{ℕ, zero, suc, _+_, _*_, _≤_, _<_, suc-le-suc}
 use mathlib.Core.Bool.{Bool, true, false, cond}
-use mathlib.Core.List.{List, [], _∷_, _++_, append-assoc, Perm, Perm-prop, Perm·refl, Perm·nil, Perm·cons, Perm·trans, Perm·append-left, Perm·append-right, perm-middle, perm-append-comm, List·Permᴰ, List·Permᴰ·nil, List·Permᴰ·cons, List·Permᴰ·swap, List·Permᴰ·trans}
+use mathlib.Core.List.{List, [], _∷_, _++_, map, map-append, append-assoc, Perm, Perm-prop, Perm·refl, Perm·nil, Perm·cons, Perm·trans, Perm·append-left, Perm·append-right, perm-middle, perm-append-comm, List·Permᴰ, List·Permᴰ·nil, List·Permᴰ·cons, List·Permᴰ·swap, List·Permᴰ·trans}
 use mathlib.Core.Logic.{∥∥₁-elim}
 use mathlib.Core.Path.{_≡_, refl, sym, ap, _∙_}
 use native.Mathlib.Omega.{arith}
@@ -32,6 +32,11 @@ getD-upTo f (suc n) i d h = last (decLt i n) (λ l. getD-upTo f n i d l)
 pub upTo-same : {A : Type 0} (f g : ℕ → A) (n : ℕ) → ((i : ℕ) → i < n → f i ≡ g i) → upTo f n ≡ upTo g n
 upTo-same f g zero h = refl
 upTo-same f g (suc n) h = λ k. upTo-same f g n (λ i l. h i (omega arith)) k ++ (h n (omega arith) k ∷ [])
+
+-- a function of each value
+pub map-upTo : {A B : Type 0} (g : A → B) (f : ℕ → A) (n : ℕ) → map g (upTo f n) ≡ upTo (λ i. g (f i)) n
+map-upTo g f zero = refl
+map-upTo g f (suc n) = rw (map-append g (upTo f n) (f n ∷ []), map-upTo g f n)
 
 -- a list is the values of its own lookup
 upTo-getD : (xs : List ℕ) → upTo (λ (i : ℕ). getD xs i 0) (length xs) ≡ xs

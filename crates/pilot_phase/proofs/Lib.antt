@@ -6,5 +6,4 @@ pub mod Metric
 pub mod Chosen
 pub mod Alike
 pub mod Counting
-pub mod Buffered
 pub mod Answers

@@ -7,13 +7,12 @@ use mathlib.Core.Path.{_≡_, refl, sym, ap, _∙_}
 use native.Mathlib.Nat.{suc-mul}
 use native.Mathlib.Numerals.{add-one}
 use native.Mathlib.Omega.{arith}
-use lib.ListN.{length, getD, take, length-append}
+use lib.ListN.{length, getD, take}
 use lib.Ieee.{Float, binary32, div, lt}
 use Rattle.ieee.specs.Constants.{plusZero}
 use Rattle.ieee.specs.Sums.{total}
 use Rattle.lists.specs.Lists.{joined}
 use Rattle.lists.specs.Fill.{joined-more}
-use Rattle.lists.specs.Select.{length-upTo, length-joined}
 use Rattle.params.specs.declared.Mode.{Mode}
 use Rattle.params.specs.declared.SegmentKind.the-variants.{Coherent, Differential}
 use Rattle.params.specs.Params.{carriersPerSegment, totalCarriers, kindFrom}
@@ -23,19 +22,13 @@ use Rattle.ofdm.specs.Laws.{place-of-segment, segment-ends}
 use Rattle.complex.specs.Complex.{Pair, pair, of32}
 use Rattle.complex.specs.Totals.{totals}
 use Rattle.spectra.specs.Spectra.{pairAt}
-use Rattle.prbs.specs.Signs.{segmentSigns, edgeSign, bandSigns}
+use Rattle.prbs.specs.Signs.{bandSigns}
+use Rattle.prbs.specs.Buffered.{signs-length}
 use Rattle.pilot_phase.specs.declared.Run.{Run}
 use Rattle.pilot_phase.specs.PilotPhase.{pilots, twelveApart, productSum, energySum, phaseMetric}
 use Rattle.pilot_phase.specs.Inner.{twelfths, Parted, Walked, Walkable, Walks, Spectrum}
 use Rattle.pilot_phase.proofs.Pilots.{twelves, segmentPilots, by-segment, coherent-pilots, differential-pilots}
 use Rattle.pilot_phase.proofs.Walking.{walk-apart}
-
--- the band has a sign for each carrier
-pub signs-length : (mode : Mode) → length (bandSigns mode) ≡ totalCarriers mode
-unfolding bandSigns segmentSigns
-signs-length mode =
-    let parts = length-joined (segmentSigns mode) (carriersPerSegment mode) 0 order (λ i l. length-upTo _ (carriersPerSegment mode)) in
-    omega (arith, length-append (joined (segmentSigns mode) order) (edgeSign mode ∷ []), parts, sized mode .band)
 
 -- no pilot yet
 none-yet : (mode : Mode) (y : ℕ → Pair) (next : ℕ) (r : Run) → r .joined ≡ false → of32 (r .sum) ≡ pair (plusZero binary32) (plusZero binary32)

@@ -1,3 +1,4 @@
 pub mod Signs
 pub mod OneRegister
 pub mod SignMap
+pub mod Buffered

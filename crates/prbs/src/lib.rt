@@ -129,6 +129,13 @@ pub fn pilot_value(w: u8) -> C32
     C32::new(amplitude, 0.0)
 }
 
+// Room for the signs of the largest band. The `ensures` gives the length alone.
+pub fn sign_buffer() -> [u8; 5617]
+    ensures { λ r. ⌜ 5617 ≡ length r ⌝ }
+{
+    [0; 5617]
+}
+
 // W of all carriers of the band, segment after segment from the lowest place.
 pub fn band_w(mode: Mode, out: &mut [u8])
     requires { ⌜ length (now out) ≡ totalCarriers mode ⌝ }

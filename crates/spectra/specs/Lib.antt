@@ -1,3 +1,5 @@
 pub mod Spectra
 pub mod Changes
 pub mod Accepted
+pub mod Flat
+pub mod Codes

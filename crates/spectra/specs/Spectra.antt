@@ -5,7 +5,7 @@ use Prim.Native.Nat.{ℕ, zero, suc, _+_, _*_, _/_, _%_}
 use mathlib.Core.Bool.{Bool, _&&_}
 use mathlib.Core.List.{List, [], _∷_}
 use lib.Dec.{eqb, leb, ltb}
-use lib.ListN.{getD, length}
+use lib.ListN.{getD, set, length}
 use lib.Ieee.{Float, nan}
 use Rattle.lists.specs.Refusals.{unless}
 use Rattle.complex.specs.Complex.{Pair, pair}
@@ -13,6 +13,15 @@ use Rattle.complex.specs.Complex.{Pair, pair}
 -- pair k of a flat list
 abbrev pub pairAt : List Float → ℕ → Pair
 pairAt xs k = pair (getD xs (2 * k) nan) (getD xs (2 * k + 1) nan)
+
+-- pairs, laid flat
+unfoldable pub flat : List Pair → List Float
+flat [] = []
+flat (p ∷ ps) = p .re ∷ p .im ∷ flat ps
+
+-- a flat list with v for its pair k
+abbrev pub withPair : List Float → ℕ → Pair → List Float
+withPair xs k v = set (set xs (2 * k) (v .re)) (2 * k + 1) (v .im)
 
 -- n pairs from k on, len apart
 unfoldable pub column : List Float → ℕ → ℕ → ℕ → List Pair

@@ -3,7 +3,7 @@ ghost use mathlib.Core.Path.{_≡_};
 ghost use Prim.Native.Nat.{_+_, _*_, _<_};
 ghost use lib.ListN.{length};
 ghost use Rattle.complex.specs.Complex.{of32};
-ghost use Rattle.spectra.specs.Spectra.{pairAt, spectraCode};
+ghost use Rattle.spectra.specs.Spectra.{pairAt, withPair, spectraCode};
 use complex::C32;
 
 // Pair k.
@@ -17,6 +17,17 @@ pub fn pair_at(xs: &[f32], k: usize) -> C32
         re: xs[i],
         im: xs[j],
     }
+}
+
+// Stores v as pair k.
+pub fn put_pair(xs: &mut [f32], k: usize, v: C32)
+    requires { ⌜ 2 * k + 1 < length (now xs) ⌝ }
+    ensures { λ _. ⌜ now (xs .exit) ≡ withPair (now (xs .entry)) k (of32 v) ⌝ }
+{
+    let i = 2 * k;
+    let j = i + 1;
+    xs[i] = v.re;
+    xs[j] = v.im;
 }
 
 // 5 unless n floats are whole spectra of len pairs, at most 1,024; 6 if none; else 0.

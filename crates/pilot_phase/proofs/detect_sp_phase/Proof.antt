@@ -6,7 +6,7 @@ use native.Mathlib.Omega.{arith}
 use borrow.Author.Needs.{needs}
 use borrow.Author.Tests.{not-true, not-false, eq-eqb, ne-eqb}
 use Rattle.params.specs.Laws.{sized}
-use Rattle.pilot_phase.proofs.Buffered.{room, front-length, written-room, written-front, written-length}
+use Rattle.prbs.specs.Buffered.{room, front-length, written-room, written-front, written-length}
 use Rattle.pilot_phase.proofs.Answers.{bad-layout, bad-length, too-many, votable, no-pilots, whole-votes, whole-total, lead-fits, answered}
 use Rattle.pilot_phase.proofs.detect_sp_phase.Statement.{statement}
 use Rattle.pilot_phase.proofs.detect_sp_phase.Tie as tie

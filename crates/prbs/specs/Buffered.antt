@@ -1,16 +1,24 @@
--- The band's signs in a buffer's first k_total entries.
+-- The band has a sign for each carrier, and the signs lie in a buffer's first k_total entries.
 -- Assumes nothing.
 use Prim.Native.Nat.{ℕ, _≤_}
-use mathlib.Core.List.{List, _++_}
+use mathlib.Core.List.{List, [], _∷_, _++_}
 use mathlib.Core.Path.{_≡_, sym, ap, _∙_}
 use native.Mathlib.Omega.{arith}
 use lib.ListN.{length, take, drop, length-append}
 use lib.Seq.{length-take-le, take-at}
+use Rattle.lists.specs.Lists.{joined}
+use Rattle.lists.specs.Select.{length-upTo, length-joined}
 use Rattle.params.specs.declared.Mode.{Mode}
-use Rattle.params.specs.Params.{totalCarriers}
+use Rattle.params.specs.Params.{carriersPerSegment, totalCarriers}
 use Rattle.params.specs.Laws.{sized}
-use Rattle.prbs.specs.Signs.{bandSigns}
-use Rattle.pilot_phase.proofs.Metric.{signs-length}
+use Rattle.ofdm.specs.Band.{order}
+use Rattle.prbs.specs.Signs.{segmentSigns, edgeSign, bandSigns}
+
+pub signs-length : (mode : Mode) → length (bandSigns mode) ≡ totalCarriers mode
+unfolding bandSigns segmentSigns
+signs-length mode =
+    let parts = length-joined (segmentSigns mode) (carriersPerSegment mode) 0 order (λ i l. length-upTo _ (carriersPerSegment mode)) in
+    omega (arith, length-append (joined (segmentSigns mode) order) (edgeSign mode ∷ []), parts, sized mode .band)
 
 module _ (m : Mode) {k : ℕ} (sizes : k ≡ totalCarriers m) (buffer : List ℕ) (size : 5617 ≡ length buffer) where
   pub room : k ≤ length buffer

@@ -1,0 +1,57 @@
+-- What the tests on the way to a return make of the definition of `estimate_grid`.
+-- Assumes nothing.
+use Prim.Native.Nat.{ℕ}
+use mathlib.Core.Bool.{Bool, true, false, cond}
+use mathlib.Core.List.{List}
+use mathlib.Core.Path.{_≡_, refl, sym, ap, _∙_}
+use borrow.Author.Tests.{eq-eqb, ne-eqb}
+use lib.Dec.{eqb}
+use lib.ListN.{length}
+use lib.Ieee.{Float}
+use Rattle.lists.specs.Refusals.{unless}
+use Rattle.params.specs.declared.Mode.{Mode}
+use Rattle.params.specs.declared.ModeNumber.{ModeNumber}
+use Rattle.params.specs.declared.ModeNumber.the-variants.{Known, Unknown}
+use Rattle.frame.specs.Operations.{areKinds, layoutCode}
+use Rattle.frame.specs.Written.{AcceptedLayout}
+use Rattle.frame.specs.Returns.{kinds-good}
+use Rattle.chanest.specs.Grid.{grid, windowCode, gridCode, gridLeaves, GridEstimated}
+
+module _ {number : ModeNumber} {kinds : List ℕ} {code : ℕ} {m : Mode} {read : List ℕ} (a : AcceptedLayout number kinds code m read) (phase : ℕ) (xs : List Float) (t w : ℕ) (old : List Float) where
+  abbrev codeOf : ModeNumber → ℕ
+  codeOf k = gridCode k phase kinds (length xs) t w (length old)
+
+  refused : (k : ModeNumber) (n : ℕ) → n ≡ codeOf k → (n ≡ 0 → ⊥) → GridEstimated k phase kinds xs t w old n old
+  unfolding gridLeaves
+  refused Unknown n e h = record { code = e; leaves = refl }
+  refused (Known m) n e h =
+      let no : eqb (codeOf (Known m)) 0 ≡ false = ne-eqb _ 0 (λ z. h (e ∙ z)) in
+      record { code = e; leaves = rw no }
+
+  -- a layout's refusal is the operation's
+  layout-first : (k : ModeNumber) → (layoutCode k kinds ≡ 0 → ⊥) → layoutCode k kinds ≡ codeOf k
+  unfolding layoutCode gridCode
+  layout-first Unknown h = refl
+  layout-first (Known m) h = by (areKinds kinds) h
+    where
+      by : (b : Bool) → (_≡_ {A = ℕ} (unless b 2 0) 0 → ⊥) → unless b 2 0 ≡ unless b 2 (windowCode m phase (length xs) t w (length old))
+      by true h = absurd (h refl)
+      by false h = refl
+
+  pub bad-layout : (code ≡ 0 → ⊥) → GridEstimated number phase kinds xs t w old code old
+  bad-layout h = refused number code (a .refusal ∙ layout-first number (λ e. h (a .refusal ∙ e))) h
+
+  -- an accepted layout, and the code of the other numbers
+  module _ (z : code ≡ 0) {n : ℕ} (e : n ≡ windowCode m phase (length xs) t w (length old)) where
+    told : n ≡ codeOf (Known m)
+    unfolding gridCode
+    told = rw (kinds-good number kinds code m read a z) e
+
+    pub bad-numbers : (n ≡ 0 → ⊥) → GridEstimated number phase kinds xs t w old n old
+    bad-numbers h = rw (a .known z) (refused (Known m) n told h)
+
+    pub answered : {now : List Float} → n ≡ 0 → now ≡ grid m phase read xs t w old → GridEstimated number phase kinds xs t w old 0 now
+    unfolding gridLeaves
+    answered o p =
+        let none : eqb (codeOf (Known m)) 0 ≡ true = eq-eqb _ 0 (sym told ∙ o) in
+        rw (a .known z) (record { code = sym o ∙ told; leaves = rw (none, ← a .same z) p })

@@ -1,0 +1,12 @@
+-- Laws that belong to no one function.
+pub mod Searching
+pub mod Signed
+pub mod Summing
+pub mod Carriers
+pub mod PairSums
+pub mod Fitted
+pub mod Writing
+pub mod Points
+pub mod Band
+pub mod Planning
+pub mod Answers

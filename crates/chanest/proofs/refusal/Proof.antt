@@ -1,0 +1,75 @@
+-- `chanest::refusal` meets its contract: each return is the case of the definition that the tests on the way decide.
+-- Assumes nothing.
+use native.Mathlib.Omega.{arith}
+use borrow.Author.Needs.{needs}
+use Rattle.params.specs.Laws.{sized}
+use Rattle.chanest.specs.Codes.{by-phase, by-spectra, by-index, by-window, by-length, by-none}
+use Rattle.chanest.proofs.refusal.Statement.{statement}
+use Rattle.chanest.proofs.refusal.Tie as tie
+
+total-carriers-requires : tie.Need-total-carriers-requires
+total-carriers-requires c κs = search needs
+
+returns : tie.Need-returns
+returns c = by-phase _ _ _ _ _ _ (c .if1 .taken)
+
+refusal-requires : tie.Need-refusal-requires
+refusal-requires c κs =
+    let m = c .before .before .args .mode in
+    (omega (arith, sized m .band), omega (arith, sized m .band-high))
+
+returns-2 : tie.Need-returns-2
+returns-2 c =
+    let r = c .before in
+    by-spectra _ _ _ _ _ _ _ (r .before .before .total-carriers .ensures) (r .before .if1 .left) _ (r .refusal .ensures) (c .if2 .taken)
+
+mul-if3 : tie.Need-mul-if3
+mul-if3 c = omega (arith, sized (c .before .before .before .before .args .mode) .band-high)
+
+div-if3 : tie.Need-div-if3
+div-if3 c = omega (arith, sized (c .before .before .before .before .args .mode) .band)
+
+returns-3 : tie.Need-returns-3
+returns-3 c =
+    let r = c .before .before in
+    by-index _ _ _ _ _ _ _ (r .before .before .total-carriers .ensures) (r .before .if1 .left) _ (r .refusal .ensures) (c .before .if2 .left) (c .if3 .taken)
+
+returns-4 : tie.Need-returns-4
+returns-4 c =
+    let r = c .before .before .before in
+    by-window _ _ _ _ _ _ _ (r .before .before .total-carriers .ensures) (r .before .if1 .left) _ (r .refusal .ensures) (c .before .before .if2 .left) (c .before .if3 .left) (c .if4 .taken)
+
+add-if5 : tie.Need-add-if5
+add-if5 c = search needs
+
+mul-if5 : tie.Need-mul-if5
+mul-if5 c = search needs
+
+returns-5 : tie.Need-returns-5
+returns-5 c =
+    let i = c .before .before in
+    let r = i .before .before in
+    by-length _ _ _ _ _ _ _ (r .before .before .total-carriers .ensures) (r .before .if1 .left) _ (r .refusal .ensures) (i .before .if2 .left) (i .if3 .left) (c .before .if4 .left) (c .if5 .taken)
+
+returns-6 : tie.Need-returns-6
+returns-6 c =
+    let i = c .before .before in
+    let r = i .before .before in
+    by-none _ _ _ _ _ _ _ (r .before .before .total-carriers .ensures) (r .before .if1 .left) _ (r .refusal .ensures) (i .before .if2 .left) (i .if3 .left) (c .before .if4 .left) (c .if5 .left)
+
+pub refusal-spec : {M : Type 1} → statement M
+refusal-spec =
+    tie.close
+    (tie.spec
+    total-carriers-requires
+    returns
+    refusal-requires
+    returns-2
+    mul-if3
+    div-if3
+    returns-3
+    returns-4
+    add-if5
+    mul-if5
+    returns-5
+    returns-6)

@@ -1,0 +1,76 @@
+-- What the tests of `refusal` make of the code of a grid's numbers, and what a code of 0 says of them.
+-- Assumes nothing.
+use Prim.Native.Nat.{ℕ, _+_, _*_, _/_, _%_, _≤_, _<_}
+use mathlib.Core.Bool.{true}
+use mathlib.Core.Path.{_≡_, sym, _∙_}
+use native.Mathlib.Omega.{arith}
+use borrow.Author.Tests.{eq-eqb, ne-eqb, le-leb, lt-leb, lt-ltb, le-ltb, eqb-true, leb-true, ltb-true}
+use lib.Dec.{eqb, leb, ltb}
+use Rattle.lists.specs.Refusals.{unless}
+use Rattle.params.specs.declared.Mode.{Mode}
+use Rattle.params.specs.Params.{totalCarriers}
+use Rattle.spectra.specs.Spectra.{spectraIn, spectraCode}
+use Rattle.spectra.specs.Codes.{unless-passed, spectra-refused, spectra-passed, spectra-behind}
+use Rattle.chanest.specs.Grid.{gridPoints, windowCode}
+
+module _ (mode : Mode) (phase floats t w n : ℕ) where
+  abbrev result : ℕ
+  result = windowCode mode phase floats t w n
+
+  -- numbers that nothing refuses
+  pub record Accepted : Type 0 where
+    pub cycle : phase < 4
+    pub whole : floats % (2 * totalCarriers mode) ≡ 0
+    pub few : spectraIn (totalCarriers mode) floats ≤ 1024
+    pub inside : t < spectraIn (totalCarriers mode) floats
+    pub short : w ≤ 64
+    pub room : n ≡ 2 * gridPoints mode
+
+  pub accepted : result ≡ 0 → Accepted
+  unfolding windowCode
+  accepted e =
+      let p = unless-passed (ltb phase 4) 2 _ e in
+      let s = spectra-passed (totalCarriers mode) floats _ (p .1) in
+      let i = unless-passed (ltb t (spectraIn (totalCarriers mode) floats)) 3 _ (s .behind) in
+      let b = unless-passed (leb w 64) 9 _ (i .1) in
+      let l = unless-passed (eqb n (2 * gridPoints mode)) 6 0 (b .1) in
+      record {
+        cycle = ltb-true _ _ (p .0);
+        whole = s .whole;
+        few = s .few;
+        inside = ltb-true _ _ (i .0);
+        short = leb-true _ _ (b .0);
+        room = eqb-true _ _ (l .0);
+      }
+
+  -- the tests in their order; k carriers a spectrum
+  pub by-phase : 3 < phase → 3 ≡ result
+  unfolding windowCode
+  by-phase h = rw (le-ltb phase 4 h)
+
+  module _ (k : ℕ) (size : k ≡ totalCarriers mode) (p : phase ≤ 3) (code : ℕ) (told : code ≡ spectraCode k floats 0) where
+    cycle : ltb phase 4 ≡ true
+    cycle = lt-ltb phase 4 (omega arith)
+
+    pub by-spectra : (code ≡ 0 → ⊥) → code ≡ result
+    unfolding windowCode
+    by-spectra h = rw (cycle, ← size) (told ∙ spectra-refused k floats _ (λ e. h (told ∙ e)))
+
+    module _ (z : code ≡ 0) where
+      later : result ≡ unless (ltb t (floats / (2 * k))) 4 (unless (leb w 64) 10 (unless (eqb n (2 * (k / 3 + 2))) 7 0))
+      unfolding windowCode
+      later = rw (cycle, ← size) (spectra-behind k floats _ (sym told ∙ z))
+
+      pub by-index : floats / (2 * k) ≤ t → 4 ≡ result
+      by-index h = sym (later ∙ rw (le-ltb _ _ h))
+
+      module _ (i : t < floats / (2 * k)) where
+        pub by-window : 64 < w → 10 ≡ result
+        by-window h = sym (later ∙ rw (lt-ltb _ _ i, lt-leb _ _ h))
+
+        module _ (b : w ≤ 64) where
+          pub by-length : (n ≡ 2 * (k / 3 + 2) → ⊥) → 7 ≡ result
+          by-length h = sym (later ∙ rw (lt-ltb _ _ i, le-leb _ _ b, ne-eqb _ _ h))
+
+          pub by-none : n ≡ 2 * (k / 3 + 2) → 0 ≡ result
+          by-none h = sym (later ∙ rw (lt-ltb _ _ i, le-leb _ _ b, eq-eqb _ _ h))

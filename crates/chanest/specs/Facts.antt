@@ -1,0 +1,213 @@
+-- What the grid is worth: it keeps its length and every point that no pilot gives; the others depend on nothing that was lent; with no coherent
+-- segment nothing changes; and its points are the standard's pilots, scattered in the coherent segments and continual above them.
+-- Assumes nothing.
+use Prim.Native.Nat.{ℕ, _+_, _-_, _*_, _/_, _%_, _≤_, _<_}
+use mathlib.Core.Bool.{Bool, true, false, cond, _&&_, _||_}
+use mathlib.Core.List.{List}
+use mathlib.Core.Path.{_≡_, refl, sym, ap, _∙_}
+use native.Mathlib.Omega.{arith}
+use native.Mathlib.Decide.{decLt}
+use borrow.Author.Tests.{eqb-true, ltb-true, eq-eqb, ne-eqb, lt-ltb, le-ltb}
+use lib.Dec.{eqb, ltb}
+use lib.ListN.{getD, length}
+use lib.Ieee.{Float}
+use Rattle.lists.specs.Tests.{agree, both-left, both-right}
+use Rattle.lists.specs.Select.{length-upTo}
+use Rattle.params.specs.declared.Mode.{Mode}
+use Rattle.params.specs.declared.Mode.the-variants.{M1, M2, M3}
+use Rattle.params.specs.declared.ModeNumber.the-variants.{Known, Unknown}
+use Rattle.params.specs.declared.SegmentKind.the-variants.{Coherent, Differential}
+use Rattle.params.specs.Params.{carriersPerSegment}
+use Rattle.ofdm.specs.Band.{segmentAt}
+use Rattle.ofdm.specs.Laws.{segment-below}
+use Rattle.complex.specs.Complex.{Pair}
+use Rattle.spectra.specs.Spectra.{pairAt}
+use Rattle.spectra.specs.Codes.{unless-passed}
+use Rattle.spectra.specs.Flat.{length-flat, pair-flat, flat-own}
+use Rattle.frame.specs.declared.CarrierRole.the-variants.{Sp, Cp, EdgeCp}
+use Rattle.frame.specs.Operations.{areKinds}
+use Rattle.frame.specs.Roles.{OfdmSegment, roleByte, placeRole, bandRoles, wideSegment, wide}
+use Rattle.frame.specs.Rules.{segmentIn}
+use Rattle.frame.specs.OneRole.{map-says}
+use Rattle.chanest.specs.Grid.{segmentPoints, gridPoints, coherentAt, isScattered, isClosing, backOf, scatteredAt, continualAt, gridPoint, gridOf, atLeastOne, grid, gridCode, gridLeaves}
+use Rattle.chanest.specs.Codes.{accepted}
+
+no-closing : (a b c : Bool) → c ≡ false → (a && (b && c)) ≡ false
+no-closing true true c e = e
+no-closing true false c e = refl
+no-closing false b c e = refl
+
+not-coherent : (kinds : List ℕ) → ((seg : ℕ) → seg < 13 → getD kinds seg 0 ≡ 1) → (place : ℕ) → Dec (place < 13) → coherentAt kinds place ≡ false
+not-coherent kinds h place (yes l) = rw (lt-ltb place 13 l, h (segmentAt place) (segment-below place l))
+not-coherent kinds h place (no g) = rw (le-ltb place 13 (omega arith))
+
+-- ---- what is kept, and what is written
+module _ (m : Mode) (phase : ℕ) (kinds : List ℕ) (xs : List Float) (t w : ℕ) (old : List Float) where
+  abbrev Accepted : Type 0
+  Accepted = gridCode (Known m) phase kinds (length xs) t w (length old) ≡ 0
+
+  abbrev given : List Float
+  given = grid m phase kinds xs t w old
+
+  abbrev left : List Float
+  left = gridLeaves (Known m) phase kinds xs t w old
+
+  -- an accepted call was lent a whole grid
+  whole : Accepted → length old ≡ 2 * gridPoints m
+  unfolding gridCode
+  whole a = accepted m phase (length xs) t w (length old) (unless-passed (areKinds kinds) 1 _ a .1) .room
+
+  -- what is left is the grid, or what was lent
+  either : (P : List Float → Type 0) → (Accepted → P given) → P old → P left
+  unfolding gridLeaves
+  either P new same = by (eqb (gridCode (Known m) phase kinds (length xs) t w (length old)) 0) refl
+    where
+      by : (b : Bool) → eqb (gridCode (Known m) phase kinds (length xs) t w (length old)) 0 ≡ b → P (cond b given old)
+      by true e = new (eqb-true _ _ e)
+      by false e = same
+
+  left-given : Accepted → left ≡ given
+  unfolding gridLeaves
+  left-given a = rw (eq-eqb _ _ a)
+
+  given-length : length given ≡ 2 * gridPoints m
+  unfolding gridOf
+  given-length = length-flat _ ∙ ap (λ (n : ℕ). 2 * n) (length-upTo _ (gridPoints m))
+
+  given-at : (i : ℕ) → i < gridPoints m → pairAt given i ≡ gridPoint m phase kinds xs t (atLeastOne w) (pairAt old i) i
+  unfolding gridOf
+  given-at i h = pair-flat _ (gridPoints m) i h
+
+  point-kept : (v : Pair) (i : ℕ) → isScattered m kinds i ≡ false → isClosing m kinds i ≡ false → gridPoint m phase kinds xs t (atLeastOne w) v i ≡ v
+  unfolding gridPoint
+  point-kept v i s c = rw (s, c)
+
+  -- the grid keeps its length
+  pub length-kept : length left ≡ length old
+  length-kept = either (λ z. length z ≡ length old) (λ a. given-length ∙ sym (whole a)) refl
+
+  module _ (i : ℕ) (h : i < gridPoints m) where
+    -- a point that is no pilot's holds the very pair that was lent
+    pub kept : isScattered m kinds i ≡ false → isClosing m kinds i ≡ false → pairAt left i ≡ pairAt old i
+    kept s c = either (λ z. pairAt z i ≡ pairAt old i) (λ a. given-at i h ∙ point-kept (pairAt old i) i s c) refl
+
+    -- the others hold what their pilots give
+    pub scattered-written : Accepted → isScattered m kinds i ≡ true → pairAt left i ≡ scatteredAt m phase xs t (atLeastOne w) i
+    unfolding gridPoint
+    scattered-written a s = ap (λ (z : List Float). pairAt z i) (left-given a) ∙ (given-at i h ∙ rw s)
+
+    pub closing-written : Accepted → isScattered m kinds i ≡ false → isClosing m kinds i ≡ true → pairAt left i ≡ continualAt m xs t (atLeastOne w) i
+    unfolding gridPoint
+    closing-written a s c = ap (λ (z : List Float). pairAt z i) (left-given a) ∙ (given-at i h ∙ rw (s, c))
+
+  -- where no segment is coherent, the grid is bit for bit what was lent
+  pub none-coherent : ((place : ℕ) → coherentAt kinds place ≡ false) → left ≡ old
+  unfolding gridOf
+  none-coherent none =
+      either (λ z. z ≡ old) (λ a. sym (flat-own _ (gridPoints m) old (whole a) (λ i h. sym (unchanged i)))) refl
+    where
+      unchanged : (i : ℕ) → gridPoint m phase kinds xs t (atLeastOne w) (pairAt old i) i ≡ pairAt old i
+      unchanged i =
+          point-kept (pairAt old i) i (none (i / segmentPoints m))
+          (no-closing (eqb (i % segmentPoints m) 0) (ltb 0 i) _ (none (i / segmentPoints m - 1)))
+
+  pub all-differential : ((seg : ℕ) → seg < 13 → getD kinds seg 0 ≡ 1) → left ≡ old
+  all-differential h = none-coherent (λ place. not-coherent kinds h place (decLt place 13))
+
+-- a number that is no mode changes nothing either
+pub no-mode : (phase : ℕ) (kinds : List ℕ) (xs : List Float) (t w : ℕ) (old : List Float) → gridLeaves Unknown phase kinds xs t w old ≡ old
+unfolding gridLeaves
+no-mode phase kinds xs t w old = refl
+
+-- what pilots give depends on nothing that was lent
+pub same-written : (m : Mode) (phase : ℕ) (kinds : List ℕ) (xs : List Float) (t w : ℕ) (old other : List Float) (i : ℕ) → i < gridPoints m
+    → length other ≡ length old → gridCode (Known m) phase kinds (length xs) t w (length old) ≡ 0 → (isScattered m kinds i || isClosing m kinds i) ≡ true
+    → pairAt (gridLeaves (Known m) phase kinds xs t w old) i ≡ pairAt (gridLeaves (Known m) phase kinds xs t w other) i
+same-written m phase kinds xs t w old other i h l a s = by (isScattered m kinds i) refl s
+  where
+    b : gridCode (Known m) phase kinds (length xs) t w (length other) ≡ 0
+    b = rw l a
+
+    by : (c : Bool) → isScattered m kinds i ≡ c → (c || isClosing m kinds i) ≡ true
+        → pairAt (gridLeaves (Known m) phase kinds xs t w old) i ≡ pairAt (gridLeaves (Known m) phase kinds xs t w other) i
+    by true e g = scattered-written m phase kinds xs t w old i h a e ∙ sym (scattered-written m phase kinds xs t w other i h b e)
+    by false e g = closing-written m phase kinds xs t w old i h a e g ∙ sym (closing-written m phase kinds xs t w other i h b e g)
+
+-- ---- the points are the standard's pilots
+-- how points and carriers hang together
+record Placed (m : Mode) (i : ℕ) : Type 0 where
+  carriers : carriersPerSegment m ≡ 3 * segmentPoints m
+  place : 3 * i / carriersPerSegment m ≡ i / segmentPoints m
+  in-phase : 3 * i % carriersPerSegment m % 12 ≡ 3 * (i % 4)
+  lowest : i % segmentPoints m ≡ 0 → 3 * i % carriersPerSegment m ≡ 0
+  inside : i / segmentPoints m < 13 → i < 13 * segmentPoints m
+  below : i < 13 * segmentPoints m → i / segmentPoints m < 13
+  closes : i % segmentPoints m ≡ 0 → i / segmentPoints m - 1 < 13 → i ≤ 13 * segmentPoints m
+
+placed : (m : Mode) (i : ℕ) → Placed m i
+placed M1 i = record { carriers = refl; place = omega arith; in-phase = omega arith; lowest = λ h. omega arith; inside = λ h. omega arith; below = λ h. omega arith; closes = λ h l. omega arith }
+placed M2 i = record { carriers = refl; place = omega arith; in-phase = omega arith; lowest = λ h. omega arith; inside = λ h. omega arith; below = λ h. omega arith; closes = λ h l. omega arith }
+placed M3 i = record { carriers = refl; place = omega arith; in-phase = omega arith; lowest = λ h. omega arith; inside = λ h. omega arith; below = λ h. omega arith; closes = λ h l. omega arith }
+
+segment-in : (kinds : List ℕ) (place : ℕ) → place < 13 → segmentIn (wide kinds) place ≡ wideSegment kinds (segmentAt place)
+segment-in kinds place h = agree (segmentIn (wide kinds)) (λ p. wideSegment kinds (segmentAt p)) 13 refl place h
+
+sp-role : (m : Mode) (s : OfdmSegment) (phase p : ℕ) → s .kind ≡ Coherent → p % 12 ≡ 3 * phase → placeRole m s phase p ≡ Sp
+unfolding placeRole
+sp-role m s phase p k e = rw (k, eq-eqb _ _ e)
+
+cp-role : (m : Mode) (s : OfdmSegment) (phase p : ℕ) → s .kind ≡ Differential → p ≡ 0 → placeRole m s phase p ≡ Cp
+unfolding placeRole
+cp-role m s phase p k e = rw (k, e)
+
+module _ (m : Mode) (kinds : List ℕ) (i : ℕ) where
+  abbrev segment : OfdmSegment
+  segment = wideSegment kinds (segmentAt (i / segmentPoints m))
+
+  -- the role byte of point i's carrier, in a segment and at the edge
+  segment-byte : (phase : ℕ) → i < 13 * segmentPoints m
+      → getD (bandRoles m phase (wide kinds)) (3 * i) 0 ≡ roleByte (placeRole m segment phase (3 * i % carriersPerSegment m))
+  segment-byte phase h =
+      let q = placed m i in
+      map-says m phase (wide kinds) (3 * i) (omega (arith, q .carriers))
+      ∙ rw (ne-eqb (3 * i) (13 * carriersPerSegment m) (λ e. omega (arith, q .carriers)), q .place, segment-in kinds _ (q .below h))
+
+  edge-byte : (phase : ℕ) → i ≡ 13 * segmentPoints m → getD (bandRoles m phase (wide kinds)) (3 * i) 0 ≡ roleByte EdgeCp
+  edge-byte phase h =
+      let q = placed m i in
+      map-says m phase (wide kinds) (3 * i) (omega (arith, q .carriers))
+      ∙ rw (eq-eqb (3 * i) (13 * carriersPerSegment m) (omega (arith, q .carriers)))
+
+  -- a point of a coherent segment is a scattered pilot, in the symbols of phase i mod 4
+  pub scattered-role : isScattered m kinds i ≡ true → getD (bandRoles m (i % 4) (wide kinds)) (3 * i) 0 ≡ roleByte Sp
+  scattered-role s =
+      let place = ltb-true _ _ (both-left (ltb (i / segmentPoints m) 13) _ s) in
+      let kind : segment .kind ≡ Coherent = rw (both-right (ltb (i / segmentPoints m) 13) _ s) in
+      segment-byte (i % 4) (placed m i .inside place) ∙ ap roleByte (sp-role m segment (i % 4) _ kind (placed m i .in-phase))
+
+  -- and so it is sent in every spectrum s at one of its offsets from spectrum t, which has the phase `phase`
+  pub scattered-sent : isScattered m kinds i ≡ true → (phase t w j s p : ℕ) → phase < 4 → p < 4
+      → s + (4 * (w - 1) + backOf phase i) ≡ t + 4 * j → (p + t) % 4 ≡ (phase + s) % 4 → getD (bandRoles m p (wide kinds)) (3 * i) 0 ≡ roleByte Sp
+  scattered-sent c phase t w j s p h l o e = let q : p ≡ i % 4 = omega arith in rw q (scattered-role c)
+
+  -- a closing point is a continual pilot in every symbol: of the segment above, or the edge
+  pub closing-role : isScattered m kinds i ≡ false → isClosing m kinds i ≡ true → (phase : ℕ)
+      → getD (bandRoles m phase (wide kinds)) (3 * i) 0 ≡ cond (ltb i (13 * segmentPoints m)) (roleByte Cp) (roleByte EdgeCp)
+  closing-role s c phase = by (decLt i (13 * segmentPoints m))
+    where
+      start : i % segmentPoints m ≡ 0
+      start = eqb-true _ _ (both-left (eqb (i % segmentPoints m) 0) _ c)
+
+      under : i / segmentPoints m - 1 < 13
+      under = ltb-true _ _ (both-left (ltb (i / segmentPoints m - 1) 13) _ (both-right (ltb 0 i) _ (both-right (eqb (i % segmentPoints m) 0) _ c)))
+
+      by : Dec (i < 13 * segmentPoints m)
+          → getD (bandRoles m phase (wide kinds)) (3 * i) 0 ≡ cond (ltb i (13 * segmentPoints m)) (roleByte Cp) (roleByte EdgeCp)
+      by (yes h) =
+          let differs : eqb (getD kinds (segmentAt (i / segmentPoints m)) 0) 0 ≡ false = rw (lt-ltb _ 13 (placed m i .below h)) at s in
+          let kind : segment .kind ≡ Differential = rw differs in
+          rw (lt-ltb i (13 * segmentPoints m) h)
+          (segment-byte phase h ∙ ap roleByte (cp-role m segment phase _ kind (placed m i .lowest start)))
+      by (no g) =
+          let e : i ≡ 13 * segmentPoints m = omega (arith, placed m i .closes start under) in
+          rw (le-ltb i (13 * segmentPoints m) (omega arith)) (edge-byte phase e)

@@ -1,0 +1,64 @@
+-- Laws of pairs laid flat: their length, their pairs, that a list is its own pairs laid flat, and what one stored pair changes.
+-- Assumes nothing.
+use Prim.Native.Nat.{ℕ, zero, suc, _+_, _*_, _/_, _≤_, _<_}
+use mathlib.Core.List.{List, [], _∷_}
+use mathlib.Core.Logic.{_≢_}
+use mathlib.Core.Path.{_≡_, refl, sym, ap, _∙_}
+use native.Mathlib.Omega.{arith}
+use native.Mathlib.Nat.{le-of-suc-le-suc, not-suc-le-zero}
+use native.Mathlib.Decide.{decLe}
+use lib.ListN.{getD, set, length, length-set}
+use lib.Ieee.{Float, nan}
+use lib.Seq.{ext-getD, getD-set-same, getD-set-other}
+use Rattle.lists.specs.Lists.{upTo}
+use Rattle.lists.specs.Select.{length-upTo, getD-upTo}
+use Rattle.complex.specs.Complex.{Pair, pair}
+use Rattle.spectra.specs.Spectra.{pairAt, flat, withPair}
+
+pub length-flat : (ps : List Pair) → length (flat ps) ≡ 2 * length ps
+unfolding flat
+length-flat [] = refl
+length-flat (p ∷ ps) = rw (length-flat ps) (omega arith)
+
+pub pair-of : (ps : List Pair) (i : ℕ) (d : Pair) → i < length ps → pairAt (flat ps) i ≡ getD ps i d
+unfolding flat
+pair-of [] i d h = absurd (not-suc-le-zero h)
+pair-of (p ∷ ps) zero d h = refl
+pair-of (p ∷ ps) (suc i) d h =
+    let e : 2 * suc i ≡ suc (suc (2 * i)) = omega arith in
+    let o : 2 * suc i + 1 ≡ suc (suc (2 * i + 1)) = omega arith in
+    rw (o, e) (pair-of ps i d (le-of-suc-le-suc h))
+
+pub pair-flat : (f : ℕ → Pair) (n i : ℕ) → i < n → pairAt (flat (upTo f n)) i ≡ f i
+pair-flat f n i h = pair-of (upTo f n) i (f i) (rw (length-upTo f n) h) ∙ getD-upTo f n i (f i) h
+
+-- a list of n pairs that are f's values is those values laid flat
+pub flat-own : (f : ℕ → Pair) (n : ℕ) (xs : List Float) → length xs ≡ 2 * n → ((i : ℕ) → i < n → pairAt xs i ≡ f i) → xs ≡ flat (upTo f n)
+flat-own f n xs l h =
+    ext-getD nan xs (flat (upTo f n)) (l ∙ sym (length-flat (upTo f n) ∙ ap (λ (k : ℕ). 2 * k) (length-upTo f n))) (λ i b. entry i (decLe i (2 * (i / 2))) b)
+  where
+    same : (q : ℕ) → q < n → pairAt xs q ≡ pairAt (flat (upTo f n)) q
+    same q b = h q b ∙ sym (pair-flat f n q b)
+
+    entry : (i : ℕ) → Dec (i ≤ 2 * (i / 2)) → i < length xs → getD xs i nan ≡ getD (flat (upTo f n)) i nan
+    entry i (yes g) b = let e : i ≡ 2 * (i / 2) = omega arith in rw e (ap (λ (p : Pair). p .re) (same (i / 2) (omega arith)))
+    entry i (no g) b = let e : i ≡ 2 * (i / 2) + 1 = omega arith in rw e (ap (λ (p : Pair). p .im) (same (i / 2) (omega arith)))
+
+-- ---- a list with v for its pair k
+pub length-with : (xs : List Float) (k : ℕ) (v : Pair) → length (withPair xs k v) ≡ length xs
+length-with xs k v = simp length-set
+
+pub pair-with-same : (xs : List Float) (k : ℕ) (v : Pair) → 2 * k + 1 < length xs → pairAt (withPair xs k v) k ≡ v
+pair-with-same xs k v h =
+    let apart : 2 * k ≢ 2 * k + 1 = λ e. omega arith in
+    rw (
+      getD-set-other (set xs (2 * k) (v .re)) (2 * k + 1) (2 * k) (v .im) nan apart,
+      getD-set-same xs (2 * k) (v .re) nan (omega arith),
+      getD-set-same (set xs (2 * k) (v .re)) (2 * k + 1) (v .im) nan (rw length-set h),
+    )
+
+pub pair-with-other : (xs : List Float) (k j : ℕ) (v : Pair) → j ≢ k → pairAt (withPair xs k v) j ≡ pairAt xs j
+pair-with-other xs k j v n = λ t. pair (other (2 * j) (λ e. n (omega arith)) (λ e. omega arith) t) (other (2 * j + 1) (λ e. omega arith) (λ e. n (omega arith)) t)
+  where
+    other : (i : ℕ) → i ≢ 2 * k → i ≢ 2 * k + 1 → getD (withPair xs k v) i nan ≡ getD xs i nan
+    other i a b = getD-set-other (set xs (2 * k) (v .re)) (2 * k + 1) i (v .im) nan b ∙ getD-set-other xs (2 * k) i (v .re) nan a
