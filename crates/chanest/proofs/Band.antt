@@ -1,10 +1,10 @@
 -- The points of the band, place after place: what the definition has at a place, and how the written points grow by a segment, by the
 -- continual pilot that closes the segment below, and by points that keep their contents.
 -- Assumes nothing.
-use Prim.Native.Nat.{ℕ, zero, suc, _+_, _*_, _-_, _/_, _%_, _≤_, _<_}
+use Prim.Native.Nat.{ℕ, _+_, _*_, _-_, _/_, _%_, _≤_, _<_}
 use mathlib.Core.Bool.{Bool, true, false, cond, _&&_}
 use mathlib.Core.List.{List}
-use mathlib.Core.Path.{_≡_, refl, sym, ap, subst, _∙_}
+use mathlib.Core.Path.{_≡_, refl, sym, ap, _∙_}
 use native.Mathlib.Decide.{decLt}
 use native.Mathlib.Nat.{suc-mul, zero-mul, mul-le-mul-right}
 use native.Mathlib.Numerals.{add-one}
@@ -14,13 +14,12 @@ use lib.Arith.{digits-div, digits-mod}
 use lib.Dec.{eqb, ltb}
 use lib.ListN.{getD, length}
 use lib.Ieee.{Float}
-use Rattle.params.specs.declared.SegmentKind.{SegmentKind}
 use Rattle.params.specs.declared.SegmentKind.the-variants.{Coherent, Differential}
 use Rattle.params.specs.Params.{kindFrom}
 use Rattle.params.specs.Laws.{sized}
 use Rattle.ofdm.specs.Band.{segmentAt}
 use Rattle.complex.specs.Complex.{Pair}
-use Rattle.spectra.specs.Spectra.{pairAt, flat}
+use Rattle.spectra.specs.Spectra.{pairAt}
 use Rattle.chanest.specs.declared.Plan.{Plan}
 use Rattle.chanest.specs.Grid.{segmentPoints, gridPoints, coherentAt, gridPoint, gridOf}
 use Rattle.chanest.specs.Inner.{Written, Writable, scatteredPoint, continualPoint, gridBy}

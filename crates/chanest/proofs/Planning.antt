@@ -2,7 +2,7 @@
 -- Assumes nothing.
 use Prim.Native.Nat.{ℕ, _+_, _*_, _/_, _%_, _≤_, _<_}
 use mathlib.Core.List.{List}
-use mathlib.Core.Path.{_≡_, refl, sym, ap, _∙_}
+use mathlib.Core.Path.{_≡_, sym, ap, _∙_}
 use native.Mathlib.Decide.{decLt}
 use native.Mathlib.Nat.{div-add-mod, mul-assoc}
 use native.Mathlib.Omega.{arith}
@@ -12,11 +12,10 @@ use lib.Ieee.{Float}
 use Rattle.params.specs.declared.Mode.{Mode}
 use Rattle.params.specs.Params.{totalCarriers}
 use Rattle.params.specs.Laws.{sized}
-use Rattle.spectra.specs.Spectra.{spectraIn}
 use Rattle.prbs.specs.Signs.{bandSigns}
 use Rattle.chanest.specs.declared.Window.{Window}
 use Rattle.chanest.specs.declared.Plan.{Plan}
-use Rattle.chanest.specs.Grid.{gridPoints, windowCode, atLeastOne, gridOf, grid}
+use Rattle.chanest.specs.Grid.{windowCode, atLeastOne, grid}
 use Rattle.chanest.specs.Inner.{Usable, Planned, Spanned, Writable, gridBy}
 use Rattle.chanest.specs.Codes.{Accepted, accepted}
 

@@ -3,14 +3,14 @@
 -- Assumes nothing.
 use Prim.Native.Nat.{ℕ, _+_, _*_, _≤_, _<_}
 use mathlib.Core.List.{List}
-use mathlib.Core.Path.{_≡_, refl, sym, ap, _∙_}
+use mathlib.Core.Path.{_≡_, refl, ap, _∙_}
 use native.Mathlib.Omega.{arith}
 use lib.IntN.{ℤ}
 use lib.ListN.{getD, length}
 use lib.Ieee.{Float}
 use Rattle.params.specs.declared.Mode.{Mode}
 use Rattle.params.specs.declared.Mode.the-variants.{M1, M2, M3}
-use Rattle.params.specs.Params.{carriersPerSegment, totalCarriers}
+use Rattle.params.specs.Params.{carriersPerSegment}
 use Rattle.params.specs.Laws.{sized}
 use Rattle.complex.specs.Complex.{Pair}
 use Rattle.prbs.specs.Buffered.{signs-length}
@@ -19,7 +19,7 @@ use Rattle.chanest.specs.declared.Times.{Times}
 use Rattle.chanest.specs.declared.Plan.{Plan}
 use Rattle.chanest.specs.Window.{offsets, inWindow, estimateOf}
 use Rattle.chanest.specs.Grid.{segmentPoints, gridPoints, inverseOf, estimateAt}
-use Rattle.chanest.specs.Inner.{spectraOf, Timed, TimesOf, Reached, Fitting, Writable}
+use Rattle.chanest.specs.Inner.{spectraOf, Timed, TimesOf, Fitting, Writable}
 
 -- thirteen segments' points, the edge, and one that is never written
 pub record Pointed (m : Mode) : Type 0 where

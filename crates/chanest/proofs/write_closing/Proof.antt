@@ -1,6 +1,6 @@
 -- `chanest::write_closing` meets its contract: the one point stored is the plan's continual estimate there.
 -- Assumes nothing.
-use mathlib.Core.Path.{refl, sym, _∙_}
+use mathlib.Core.Path.{_∙_}
 use native.Mathlib.Omega.{arith}
 use borrow.Author.Needs.{needs}
 use Rattle.complex.specs.Complex.{of32}

@@ -2,10 +2,10 @@
 -- Assumes nothing.
 use Prim.Native.Nat.{ℕ, _-_, _/_}
 use mathlib.Core.Logic.{⊎-elim}
-use mathlib.Core.Path.{_≡_, refl, sym, ap, _∙_}
+use mathlib.Core.Path.{_≡_, sym, ap, _∙_}
 use native.Mathlib.Omega.{arith}
 use borrow.Author.Needs.{needs}
-use lib.ListN.{getD, length}
+use lib.ListN.{getD}
 use Rattle.params.specs.Params.{carriersPerSegment, kindFrom}
 use Rattle.params.specs.Laws.{sized}
 use Rattle.ofdm.specs.Band.{segmentAt}

@@ -1,11 +1,9 @@
 -- `chanest::write_segment` meets its contract: each turn stores the estimate by the times at which the point's carrier has its pilots.
 -- Assumes nothing.
 use Prim.Native.Nat.{_+_, _*_, _-_, _≤_}
-use mathlib.Core.Path.{_≡_, refl, sym, _∙_}
+use mathlib.Core.Path.{_≡_}
 use native.Mathlib.Omega.{arith}
 use borrow.Author.Needs.{needs}
-use lib.ListN.{length}
-use Rattle.params.specs.Laws.{sized}
 use Rattle.complex.specs.Complex.{of32}
 use Rattle.chanest.specs.Window.{scatteredOffsets}
 use Rattle.chanest.specs.Grid.{segmentPoints, backOf}
