@@ -10,6 +10,8 @@
 //! `samples` make what is in them. `claims` holds the port against itself, on captures that `changes`
 //! changed.
 //!
+//! The grid has the same shape: `grid_answers`, `grid_port`, `grid_calls`, `grid_cases`.
+//!
 //! `timing` takes the time of a call; `bench_acquire` times acquisition with it.
 
 pub mod acquire_answers;
@@ -30,6 +32,10 @@ pub mod complex;
 pub mod ffi;
 pub mod float_inputs;
 pub mod floats;
+pub mod grid_answers;
+pub mod grid_calls;
+pub mod grid_cases;
+pub mod grid_port;
 pub mod isdb;
 pub mod lent;
 pub mod rng;
