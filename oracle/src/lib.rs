@@ -12,7 +12,7 @@
 //!
 //! The grid has the same shape: `grid_answers`, `grid_port`, `grid_calls`, `grid_cases`.
 //!
-//! `timing` takes the time of a call; `bench_acquire` times acquisition with it.
+//! `timing` takes the time of a call; `bench_acquire` and `bench_grid` time with it.
 
 pub mod acquire_answers;
 pub mod acquire_calls;
@@ -22,6 +22,7 @@ pub mod acquire_port;
 pub mod answers;
 pub mod args;
 pub mod bench_acquire;
+pub mod bench_grid;
 pub mod calls;
 pub mod captures;
 pub mod changes;
