@@ -44,6 +44,7 @@ pub mod samples;
 pub mod segment_list;
 pub mod segments_program;
 pub mod stored_acquire;
+pub mod stored_grid;
 pub mod tally;
 pub mod timing;
 

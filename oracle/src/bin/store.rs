@@ -10,6 +10,7 @@ use oracle::isdb::tables;
 use oracle::rng::Rng;
 use oracle::segment_list::{answer, every_question, lines, random_question};
 use oracle::stored_acquire;
+use oracle::stored_grid;
 use std::fs;
 use std::io::{self, Read, Write};
 use std::process::ExitCode;
@@ -21,6 +22,8 @@ store: write a sample of the oracle's answers
   store --tables FILE         write the tables of the standard to FILE
   store --acquire FILE [--seed N]
                               write the answers of acquisition to FILE
+  store --grid FILE [--seed N]
+                              write the answers of the grid to FILE
   store --lines N [--seed N]  print N random questions for segments; `all` prints every one
   store --answers             print the answers to the questions on standard input
   --help                      this text
@@ -32,6 +35,7 @@ enum Task {
     Sample(String),
     Tables(String),
     Acquire(String),
+    Grid(String),
     Lines(u64),
     AllLines,
     Answers,
@@ -48,6 +52,7 @@ fn task() -> (Task, u64) {
             }
             "--tables" => Task::Tables(args.value("--tables")),
             "--acquire" => Task::Acquire(args.value("--acquire")),
+            "--grid" => Task::Grid(args.value("--grid")),
             "--answers" => Task::Answers,
             "--lines" => lines_task(&mut args),
             option if option.starts_with('-') => args.fail(format!("unknown word {option}")),
@@ -185,6 +190,7 @@ fn main() -> ExitCode {
         Task::Sample(path) => fs::write(path, sample(seed)),
         Task::Tables(path) => fs::write(path, tables()),
         Task::Acquire(path) => fs::write(path, stored_acquire::stored(seed)),
+        Task::Grid(path) => fs::write(path, stored_grid::stored(seed)),
         Task::Lines(count) => print_lines((0..count).map(|_| random_question(&mut rng))),
         Task::AllLines => print_lines(every_question()),
         Task::Answers => print_answers(),
