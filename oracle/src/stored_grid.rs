@@ -103,8 +103,8 @@ fn in_mode_1(rng: &mut Rng) -> Vec<Call> {
     let any = |rng: &mut Rng, count: usize| Call::new(Mode::M1, any_bytes(rng, count * one));
     let mixed = 0b1_0110_0101_1010;
     vec![
-        band(rng, 0, (7, 3, 1)),
-        band(rng, mixed, (11, 5, 2)),
+        band(rng, 0, (5, 2, 1)),
+        band(rng, mixed, (7, 3, 2)),
         band(rng, KINDS - 1 - mixed, (3, 1, 0)),
         band(rng, KINDS - 1 - (1 << 12), (4, 2, 3)),
         band(rng, 1 << 12, (6, 5, 8)),
@@ -182,7 +182,7 @@ mod tests {
     #[test]
     fn the_file_is_small() {
         for seed in 1..4 {
-            assert!(stored(seed).len() < 300_000);
+            assert!(stored(seed).len() < 250_000);
         }
     }
 
@@ -198,6 +198,7 @@ mod tests {
         for call in calls(1) {
             let record = call.record();
             let answer = if record[CODE] == 0 { 4 * call.grid } else { 0 };
+            assert!(call.floats.len() <= 22_468 && call.grid <= 3748);
             let parts = call.kinds.len() + call.floats.len() + answer;
             assert_eq!(record.len(), CODE + 1 + parts);
         }
