@@ -34,11 +34,11 @@ struct Call {
     lent: usize,
 }
 
-/// The byte of a whole number from −128 to 127: 128 more.
+/// The byte of a whole number from −128 to 127, which is not −0.0: 128 more.
 pub(crate) fn float_byte(float: f32) -> u8 {
     let byte = (float + 128.0) as u8;
     assert!(
-        f32::from(byte) - 128.0 == float,
+        (f32::from(byte) - 128.0).to_bits() == float.to_bits(),
         "{float} is no such number"
     );
     byte
@@ -208,11 +208,11 @@ fn unit(t: f64) -> C64 {
     C64::new((1.0 - t * t) / size, 2.0 * t / size)
 }
 
-/// Both parts of a value with noise, as whole numbers.
+/// Both parts of a value with noise, as whole numbers, none of them −0.0.
 fn received(rng: &mut Rng, value: C64, noise: f64) -> [f32; 2] {
     [value.re, value.im].map(|part| {
         let noisy = part + f64::from(draw::noise(rng)) * noise;
-        noisy.round().clamp(-128.0, 127.0) as f32
+        noisy.round().clamp(-128.0, 127.0) as f32 + 0.0
     })
 }
 
