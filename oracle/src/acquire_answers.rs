@@ -79,7 +79,7 @@ pub fn spectra_of(floats: &[f32], len: usize) -> Vec<Vec<C32>> {
 }
 
 /// Refuses what is not whole spectra of `len` pairs, or too many of them.
-fn whole_spectra(floats: &[f32], len: usize) -> Result<(), u8> {
+pub(crate) fn whole_spectra(floats: &[f32], len: usize) -> Result<(), u8> {
     let whole = floats.len().is_multiple_of(2 * len);
     accept(
         whole && floats.len() / (2 * len) <= MOST_SPECTRA,
@@ -88,7 +88,7 @@ fn whole_spectra(floats: &[f32], len: usize) -> Result<(), u8> {
 }
 
 /// The refusal unless `good` holds.
-fn accept(good: bool, refusal: u8) -> Result<(), u8> {
+pub(crate) fn accept(good: bool, refusal: u8) -> Result<(), u8> {
     if good { Ok(()) } else { Err(refusal) }
 }
 

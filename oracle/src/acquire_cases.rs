@@ -39,10 +39,10 @@ pub fn filled<C: Asked>((mut call, count): Unfilled<C>, rng: &mut Rng) -> C {
 }
 
 /// Once in so many random calls there are up to 1,024 spectra.
-const SELDOM: usize = 2500;
+pub(crate) const SELDOM: usize = 2500;
 
 /// The size of a mode; of a bad one, that of mode 1.
-fn size(mode: u8, of: impl Fn(Mode) -> usize) -> usize {
+pub(crate) fn size(mode: u8, of: impl Fn(Mode) -> usize) -> usize {
     of(mode_of(mode).unwrap_or(Mode::M1))
 }
 
@@ -66,7 +66,7 @@ fn boundary_floats(len: usize, other: usize) -> [usize; 9] {
 
 /// Numbers of floats around the most spectra of `len` pairs; beyond mode 1, where they take long, few
 /// of them.
-fn many_floats(mode: u8, len: usize) -> Vec<usize> {
+pub(crate) fn many_floats(mode: u8, len: usize) -> Vec<usize> {
     let most = 2 * len * MOST_SPECTRA;
     match mode {
         1 => vec![most, most + 1, most + 2 * len - 1, most + 2 * len],
@@ -76,7 +76,7 @@ fn many_floats(mode: u8, len: usize) -> Vec<usize> {
 }
 
 /// The right length or, seldom, another.
-fn mostly(rng: &mut Rng, right: usize) -> usize {
+pub(crate) fn mostly(rng: &mut Rng, right: usize) -> usize {
     match rng.below(64) {
         0 => right - 1,
         1 => right + 1,
@@ -86,7 +86,7 @@ fn mostly(rng: &mut Rng, right: usize) -> usize {
 }
 
 /// The mode's number or, seldom, any byte.
-fn mostly_good_mode(rng: &mut Rng, mode: Mode) -> u8 {
+pub(crate) fn mostly_good_mode(rng: &mut Rng, mode: Mode) -> u8 {
     if rng.once_in(64) {
         rng.byte()
     } else {
@@ -103,7 +103,7 @@ fn random_count(rng: &mut Rng, mode: Mode) -> usize {
 }
 
 /// Takes some floats from the end, or adds some; seldom.
-fn mostly_whole(rng: &mut Rng, mut floats: Vec<f32>) -> Floats {
+pub(crate) fn mostly_whole(rng: &mut Rng, mut floats: Vec<f32>) -> Floats {
     match rng.below(64) {
         0 => floats.truncate(rng.below(floats.len() + 1)),
         1 => floats.resize(floats.len() + 1 + rng.below(4), 1.0),
@@ -214,7 +214,7 @@ impl Cases for KindsCall {
 }
 
 /// Kinds and the choice that they are, mostly good. One in eight has all of one kind.
-fn mostly_good_kinds(rng: &mut Rng) -> (Vec<u8>, u16) {
+pub(crate) fn mostly_good_kinds(rng: &mut Rng) -> (Vec<u8>, u16) {
     let kinds = match rng.below(16) {
         0 => vec![0; SEGMENTS],
         1 => vec![1; SEGMENTS],

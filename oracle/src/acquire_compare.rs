@@ -1,4 +1,5 @@
-//! Holds a port of acquisition against the oracle, on calls at the boundaries and on random ones.
+//! Holds a port of acquisition and of the grid against the oracle, on calls at the boundaries and on
+//! random ones.
 
 use crate::acquire_calls::{
     Asked, Floats, GuessCall, KindsCall, NeededCall, PhaseCall, ShiftCall, TmccCall,
@@ -6,6 +7,7 @@ use crate::acquire_calls::{
 use crate::acquire_cases::{Cases, filled};
 use crate::acquire_port::Port;
 use crate::calls::Outcome;
+use crate::grid_calls::GridCall;
 use crate::rng::Rng;
 use crate::tally::{Row, Tally, on_all_processors};
 
@@ -113,7 +115,7 @@ pub fn compare_random<C: Cases>(port: &Port, seed: u64, stream: u64, cases: usiz
     tally.row(format!("{}, random", C::NAME))
 }
 
-/// Every operation, at its boundaries and on random calls.
+/// Every operation of acquisition, at its boundaries and on random calls.
 pub fn compare(port: &Port, plan: Plan) -> Vec<Row> {
     let Plan {
         seed,
@@ -133,5 +135,13 @@ pub fn compare(port: &Port, plan: Plan) -> Vec<Row> {
         compare_random::<TmccCall>(port, seed, stream + 3, cases),
         compare_random::<NeededCall>(port, seed, stream + 4, cases),
         compare_random::<GuessCall>(port, seed, stream + 5, cases),
+    ]
+}
+
+/// The grid, at its boundaries and on random calls.
+pub fn compare_grid(port: &Port, plan: Plan) -> Vec<Row> {
+    vec![
+        compare_boundary::<GridCall>(port, plan.seed),
+        compare_random::<GridCall>(port, plan.seed, plan.stream, plan.cases),
     ]
 }

@@ -1,10 +1,11 @@
 //! The port's operations of acquisition: how each is called, the linked ones, and the Rust put in
-//! their place.
+//! their place. The grid, which `grid_port` has, stands beside them.
 //!
 //! Each gives 0 or the number of its refusal; a refusal leaves what was lent untouched. The
 //! comparison takes a [`Port`], so that mistakes can be put in the place of the port.
 
 use crate::acquire_answers as answers;
+use crate::grid_port::{self, EstimateGrid};
 use crate::isdb::params::SEGMENTS;
 
 /// The lent numbers of the guess.
@@ -54,7 +55,7 @@ pub type TmccSoft = fn(u8, &[u8], &[f32], u8, &mut f32) -> u8;
 /// Mode, kinds, spectra; the phase.
 pub type DetectSpPhase = fn(u8, &[u8], &[f32], PhaseOut<'_>) -> u8;
 
-/// The six operations.
+/// The six operations, and the grid.
 #[derive(Debug, Clone, Copy)]
 pub struct Port {
     /// How many samples the guess needs.
@@ -69,6 +70,8 @@ pub struct Port {
     pub tmcc_soft: TmccSoft,
     /// The pilot phase.
     pub detect_sp_phase: DetectSpPhase,
+    /// The grid.
+    pub estimate_grid: EstimateGrid,
 }
 
 /// The port that is linked.
@@ -79,6 +82,7 @@ pub const LINKED: Port = Port {
     detect_kinds: linked::detect_kinds,
     tmcc_soft: linked::tmcc_soft,
     detect_sp_phase: linked::detect_sp_phase,
+    estimate_grid: grid_port::linked,
 };
 
 /// The Rust in the place of the port.
@@ -89,6 +93,7 @@ pub const RUST: Port = Port {
     detect_kinds: rust::detect_kinds,
     tmcc_soft: rust::tmcc_soft,
     detect_sp_phase: rust::detect_sp_phase,
+    estimate_grid: grid_port::rust,
 };
 
 /// The C functions, each behind a safe function over slices.

@@ -23,7 +23,7 @@ use crate::timing::{Effort, time};
 use std::hint::black_box;
 
 /// The mode of all spectra, and of the samples.
-const MODE: Mode = Mode::M3;
+pub(crate) const MODE: Mode = Mode::M3;
 /// The guard of the samples.
 const GUARD: GuardInterval = GuardInterval::G1_8;
 /// Pairs of samples.
@@ -35,7 +35,7 @@ const MANY: usize = 1024;
 /// The few rounds.
 const FEW_ROUNDS: usize = 3;
 /// Captures that the calls take in turn.
-const CAPTURES: usize = 8;
+pub(crate) const CAPTURES: usize = 8;
 /// The bound of the shift.
 const BOUND: usize = 100;
 /// Strength of the noise. Pilots have 4/3, data and samples 1.
@@ -45,13 +45,15 @@ const SLOPE: f64 = 0.002;
 /// Coherent and differential segments, by a bit for each.
 const MIXED: u16 = 0b0_0110_1001_0101;
 /// Every segment coherent.
-const COHERENT: u16 = 0;
+pub(crate) const COHERENT: u16 = 0;
 
 /// A row of the table.
-struct Row {
-    what: String,
-    port: f64,
-    rust: f64,
+pub(crate) struct Row {
+    pub what: String,
+    /// Nanoseconds a call.
+    pub port: f64,
+    /// Nanoseconds a call.
+    pub rust: f64,
 }
 
 impl Row {
@@ -69,7 +71,8 @@ impl Row {
         }
     }
 
-    fn print(&self) {
+    /// Prints it, in microseconds.
+    pub fn print(&self) {
         println!(
             "| {} | {:.0} | {:.0} | {:.2} |",
             self.what,
@@ -81,10 +84,10 @@ impl Row {
 }
 
 /// Spectra of a band, in the port's form and in the Rust's.
-struct Capture {
-    band: Band,
-    floats: Vec<f32>,
-    spectra: Vec<Vec<C32>>,
+pub(crate) struct Capture {
+    pub band: Band,
+    pub floats: Vec<f32>,
+    pub spectra: Vec<Vec<C32>>,
 }
 
 impl Capture {
@@ -103,7 +106,7 @@ impl Capture {
 }
 
 /// The captures of a row, each of `count` spectra.
-fn captures(choice: u16, places: Places, count: usize) -> Vec<Capture> {
+pub(crate) fn captures(choice: u16, places: Places, count: usize) -> Vec<Capture> {
     let mut rng = Rng::new(1);
     let number = if count < MANY { CAPTURES } else { 1 };
     let capture = |_| Capture::new(&mut rng, choice, places, count);
@@ -278,12 +281,17 @@ fn thousands(number: usize) -> String {
     format!("{},{:03}", number / 1000, number % 1000)
 }
 
-/// Prints the table.
-pub fn print_table(effort: &Effort) {
+/// Prints the head of a table.
+pub(crate) fn print_head() {
     println!(
         "| operation, in mode 3; the Rust's part | port, µs a call | Rust, µs a call | port / Rust |"
     );
     println!("|---|---:|---:|---:|");
+}
+
+/// Prints the table.
+pub fn print_table(effort: &Effort) {
+    print_head();
     let in_turn = Effort {
         calls: CAPTURES,
         ..*effort

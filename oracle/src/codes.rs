@@ -11,6 +11,8 @@ pub const BAD_KINDS: u8 = 2;
 pub const BAD_PHASE: u8 = 3;
 /// Refusal: a carrier at or above k_total.
 pub const BAD_CARRIER: u8 = 4;
+/// Refusal: an index of no spectrum.
+pub const BAD_INDEX: u8 = 4;
 /// Refusal: a filter of the soft TMCC value other than 0, 1, 2.
 pub const BAD_FILTER: u8 = 3;
 /// Refusal: floats that are not whole spectra or samples, or too many of them.
@@ -25,6 +27,8 @@ pub const BAD_BOUND: u8 = 8;
 pub const BAD_GUARD: u8 = 9;
 /// Refusal: more than 64 symbols.
 pub const BAD_SYMBOLS: u8 = 10;
+/// Refusal: a time window above 64.
+pub const BAD_WINDOW: u8 = 10;
 /// Refusal: a line that has not the form of a question.
 pub const BAD_LINE: u8 = 11;
 

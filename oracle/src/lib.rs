@@ -10,7 +10,9 @@
 //! `samples` make what is in them. `claims` holds the port against itself, on captures that `changes`
 //! changed.
 //!
-//! `timing` takes the time of a call; `bench_acquire` times acquisition with it.
+//! The grid has the same shape: `grid_answers`, `grid_port`, `grid_calls`, `grid_cases`.
+//!
+//! `timing` takes the time of a call; `bench_acquire` and `bench_grid` time with it.
 
 pub mod acquire_answers;
 pub mod acquire_calls;
@@ -20,6 +22,7 @@ pub mod acquire_port;
 pub mod answers;
 pub mod args;
 pub mod bench_acquire;
+pub mod bench_grid;
 pub mod calls;
 pub mod captures;
 pub mod changes;
@@ -30,6 +33,10 @@ pub mod complex;
 pub mod ffi;
 pub mod float_inputs;
 pub mod floats;
+pub mod grid_answers;
+pub mod grid_calls;
+pub mod grid_cases;
+pub mod grid_port;
 pub mod isdb;
 pub mod lent;
 pub mod rng;
@@ -38,6 +45,7 @@ pub mod segment_list;
 pub mod segments_program;
 pub mod stored_acquire;
 pub mod stored_floats;
+pub mod stored_grid;
 pub mod tally;
 pub mod timing;
 

@@ -34,18 +34,18 @@ struct Call {
     lent: usize,
 }
 
-/// The byte of a whole number from −128 to 127: 128 more.
-fn float_byte(float: f32) -> u8 {
+/// The byte of a whole number from −128 to 127, which is not −0.0: 128 more.
+pub(crate) fn float_byte(float: f32) -> u8 {
     let byte = (float + 128.0) as u8;
     assert!(
-        f32::from(byte) - 128.0 == float,
+        (f32::from(byte) - 128.0).to_bits() == float.to_bits(),
         "{float} is no such number"
     );
     byte
 }
 
 /// A number as two bytes, the low one first.
-fn two_bytes(number: usize) -> [u8; 2] {
+pub(crate) fn two_bytes(number: usize) -> [u8; 2] {
     u16::try_from(number)
         .expect("it is below 65,536")
         .to_le_bytes()
@@ -59,13 +59,13 @@ fn four_bytes(number: u64) -> [u8; 4] {
 }
 
 /// The bits of floats as four bytes each.
-fn float_bytes<'a>(floats: impl IntoIterator<Item = &'a f32>) -> Vec<u8> {
+pub(crate) fn float_bytes<'a>(floats: impl IntoIterator<Item = &'a f32>) -> Vec<u8> {
     let bytes = |&float: &f32| four_bytes(float.compared_bits());
     floats.into_iter().flat_map(bytes).collect()
 }
 
 /// The length of a list as one byte.
-fn short_length(list: &[u8]) -> u8 {
+pub(crate) fn short_length(list: &[u8]) -> u8 {
     u8::try_from(list.len()).expect("the list is short")
 }
 
@@ -208,30 +208,30 @@ fn unit(t: f64) -> C64 {
     C64::new((1.0 - t * t) / size, 2.0 * t / size)
 }
 
-/// Both parts of a value with noise, as whole numbers.
+/// Both parts of a value with noise, as whole numbers, none of them −0.0.
 fn received(rng: &mut Rng, value: C64, noise: f64) -> [f32; 2] {
     [value.re, value.im].map(|part| {
         let noisy = part + f64::from(draw::noise(rng)) * noise;
-        noisy.round().clamp(-128.0, 127.0) as f32
+        noisy.round().clamp(-128.0, 127.0) as f32 + 0.0
     })
 }
 
 /// A band whose spectra are stored.
 #[derive(Debug, Clone, Copy)]
-struct Band {
+pub(crate) struct Band {
     /// The choice of kinds.
-    choice: u16,
+    pub choice: u16,
     /// Phase of the first symbol.
-    phase: usize,
+    pub phase: usize,
     /// The shift of the bins.
-    shift: i64,
+    pub shift: i64,
     /// Strength of the noise; pilots have 80, data 60.
-    noise: f64,
+    pub noise: f64,
 }
 
 impl Band {
     /// `count` spectra, each symbol and each carrier turned against the one before.
-    fn spectra(self, rng: &mut Rng, places: Places, count: usize) -> Vec<f32> {
+    pub fn spectra(self, rng: &mut Rng, places: Places, count: usize) -> Vec<f32> {
         let layout = FrameLayout::new(MODE, kinds_of_choice(self.choice));
         let (drift, slope) = (unit(draw::fraction(rng)), unit(draw::fraction(rng) / 256.0));
         let mut signs = layout.w.clone();
@@ -287,12 +287,12 @@ fn data_point(rng: &mut Rng) -> C64 {
 }
 
 /// Any whole numbers.
-fn any_bytes(rng: &mut Rng, count: usize) -> Vec<f32> {
+pub(crate) fn any_bytes(rng: &mut Rng, count: usize) -> Vec<f32> {
     (0..count).map(|_| f32::from(rng.byte()) - 128.0).collect()
 }
 
 /// Units and, once in `silent` times, silence: energies vanish, ratios and scores tie.
-fn units(rng: &mut Rng, pairs: usize, silent: usize) -> Vec<f32> {
+pub(crate) fn units(rng: &mut Rng, pairs: usize, silent: usize) -> Vec<f32> {
     const UNITS: [[f32; 2]; 4] = [[1.0, 0.0], [0.0, 1.0], [-1.0, 0.0], [0.0, -1.0]];
     let pair = |_| match rng.once_in(silent) {
         true => [0.0, 0.0],

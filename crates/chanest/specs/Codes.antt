@@ -1,16 +1,17 @@
 -- What the tests of `refusal` make of the code of a grid's numbers, and what a code of 0 says of them.
 -- Assumes nothing.
 use Prim.Native.Nat.{ℕ, _+_, _*_, _/_, _%_, _≤_, _<_}
-use mathlib.Core.Bool.{true}
+use mathlib.Core.Bool.{true, cond}
 use mathlib.Core.Path.{_≡_, sym, _∙_}
 use native.Mathlib.Omega.{arith}
 use borrow.Author.Tests.{eq-eqb, ne-eqb, le-leb, lt-leb, lt-ltb, le-ltb, eqb-true, leb-true, ltb-true}
-use lib.Dec.{eqb, leb, ltb}
-use Rattle.lists.specs.Refusals.{unless}
+use lib.Dec.{eqb, leb, ltb, lit<}
+use Rattle.lists.specs.Refusals.{unless, passed}
 use Rattle.params.specs.declared.Mode.{Mode}
 use Rattle.params.specs.Params.{totalCarriers}
 use Rattle.spectra.specs.Spectra.{spectraIn, spectraCode}
-use Rattle.spectra.specs.Codes.{unless-passed, spectra-refused, spectra-passed, spectra-behind}
+use Rattle.spectra.specs.Accepted.{later-counts}
+use Rattle.spectra.specs.Accepted.{accepted as spectra-accepted}
 use Rattle.chanest.specs.Grid.{gridPoints, windowCode}
 
 module _ (mode : Mode) (phase floats t w n : ℕ) where
@@ -29,18 +30,18 @@ module _ (mode : Mode) (phase floats t w n : ℕ) where
   pub accepted : result ≡ 0 → Accepted
   unfolding windowCode
   accepted e =
-      let p = unless-passed (ltb phase 4) 2 _ e in
-      let s = spectra-passed (totalCarriers mode) floats _ (p .1) in
-      let i = unless-passed (ltb t (spectraIn (totalCarriers mode) floats)) 3 _ (s .behind) in
-      let b = unless-passed (leb w 64) 9 _ (i .1) in
-      let l = unless-passed (eqb n (2 * gridPoints mode)) 6 0 (b .1) in
+      let p = passed (ltb phase 4) 3 _ (lit< tt) e in
+      let s = spectra-accepted (totalCarriers mode) floats _ (p .rest) in
+      let i = passed (ltb t (spectraIn (totalCarriers mode) floats)) 4 _ (lit< tt) (s .rest) in
+      let b = passed (leb w 64) 10 _ (lit< tt) (i .rest) in
+      let l = passed (eqb n (2 * gridPoints mode)) 7 0 (lit< tt) (b .rest) in
       record {
-        cycle = ltb-true _ _ (p .0);
+        cycle = ltb-true _ _ (p .first);
         whole = s .whole;
         few = s .few;
-        inside = ltb-true _ _ (i .0);
-        short = leb-true _ _ (b .0);
-        room = eqb-true _ _ (l .0);
+        inside = ltb-true _ _ (i .first);
+        short = leb-true _ _ (b .first);
+        room = eqb-true _ _ (l .first);
       }
 
   -- the tests in their order; k carriers a spectrum
@@ -52,14 +53,19 @@ module _ (mode : Mode) (phase floats t w n : ℕ) where
     cycle : ltb phase 4 ≡ true
     cycle = lt-ltb phase 4 (omega arith)
 
-    pub by-spectra : (code ≡ 0 → ⊥) → code ≡ result
+    abbrev behind : ℕ
+    behind = unless (ltb t (floats / (2 * k))) 4 (unless (leb w 64) 10 (unless (eqb n (2 * (k / 3 + 2))) 7 0))
+
+    result-is : result ≡ cond (eqb code 0) behind code
     unfolding windowCode
-    by-spectra h = rw (cycle, ← size) (told ∙ spectra-refused k floats _ (λ e. h (told ∙ e)))
+    result-is = rw (told, cycle, ← size) (later-counts k floats _)
+
+    pub by-spectra : (code ≡ 0 → ⊥) → code ≡ result
+    by-spectra h = sym (result-is ∙ rw (ne-eqb code 0 h))
 
     module _ (z : code ≡ 0) where
-      later : result ≡ unless (ltb t (floats / (2 * k))) 4 (unless (leb w 64) 10 (unless (eqb n (2 * (k / 3 + 2))) 7 0))
-      unfolding windowCode
-      later = rw (cycle, ← size) (spectra-behind k floats _ (sym told ∙ z))
+      later : result ≡ behind
+      later = result-is ∙ rw (eq-eqb code 0 z)
 
       pub by-index : floats / (2 * k) ≤ t → 4 ≡ result
       by-index h = sym (later ∙ rw (le-ltb _ _ h))

@@ -8,10 +8,11 @@ use mathlib.Core.Path.{_≡_, refl, sym, ap, _∙_}
 use native.Mathlib.Omega.{arith}
 use native.Mathlib.Decide.{decLt}
 use borrow.Author.Tests.{eqb-true, ltb-true, eq-eqb, ne-eqb, lt-ltb, le-ltb}
-use lib.Dec.{eqb, ltb}
+use lib.Dec.{eqb, ltb, lit<}
 use lib.ListN.{getD, length}
 use lib.Ieee.{Float}
 use Rattle.lists.specs.Tests.{agree, both-left, both-right}
+use Rattle.lists.specs.Refusals.{passed}
 use Rattle.lists.specs.Select.{length-upTo}
 use Rattle.params.specs.declared.Mode.{Mode}
 use Rattle.params.specs.declared.Mode.the-variants.{M1, M2, M3}
@@ -22,7 +23,6 @@ use Rattle.ofdm.specs.Band.{segmentAt}
 use Rattle.ofdm.specs.Laws.{segment-below}
 use Rattle.complex.specs.Complex.{Pair}
 use Rattle.spectra.specs.Spectra.{pairAt}
-use Rattle.spectra.specs.Codes.{unless-passed}
 use Rattle.spectra.specs.Flat.{length-flat, pair-flat, flat-own}
 use Rattle.frame.specs.declared.CarrierRole.the-variants.{Sp, Cp, EdgeCp}
 use Rattle.frame.specs.Operations.{areKinds}
@@ -55,7 +55,7 @@ module _ (m : Mode) (phase : ℕ) (kinds : List ℕ) (xs : List Float) (t w : �
   -- an accepted call was lent a whole grid
   whole : Accepted → length old ≡ 2 * gridPoints m
   unfolding gridCode
-  whole a = accepted m phase (length xs) t w (length old) (unless-passed (areKinds kinds) 1 _ a .1) .room
+  whole a = accepted m phase (length xs) t w (length old) (passed (areKinds kinds) 2 _ (lit< tt) a .rest) .room
 
   -- what is left is the grid, or what was lent
   either : (P : List Float → Type 0) → (Accepted → P given) → P old → P left

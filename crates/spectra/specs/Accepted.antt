@@ -19,21 +19,26 @@ later-counts len n later = by (areSpectra len n) (ltb 0 n)
     by true false = refl
     by false b = refl
 
-pub record Accepted (len n : ℕ) : Type 0 where
+pub record Accepted (len n later : ℕ) : Type 0 where
+  pub whole : n % (2 * len) ≡ 0
   pub some : 0 < spectraIn len n
   pub few : spectraIn len n ≤ 1024
+  pub rest : later ≡ 0
 
 some-wholes : (q w r n : ℕ) → q * w + r ≡ n → r ≡ 0 → 0 < n → 0 < q
 some-wholes zero w r n e z h = absurd (omega (arith, zero-mul w))
 some-wholes (suc q) w r n e z h = zero-lt-suc q
 
-pub accepted : (len n later : ℕ) → spectraCode len n later ≡ 0 → Accepted len n
+pub accepted : (len n later : ℕ) → spectraCode len n later ≡ 0 → Accepted len n later
 accepted len n later e =
-    let whole = passed (areSpectra len n) 5 _ (lit< tt) e in
-    let some = passed (ltb 0 n) 6 later (lit< tt) (whole .rest) in
+    let spectral = passed (areSpectra len n) 5 _ (lit< tt) e in
+    let any = passed (ltb 0 n) 6 later (lit< tt) (spectral .rest) in
     let t = eqb (n % (2 * len)) 0 in
     let u = leb (spectraIn len n) 1024 in
+    let wholes = eqb-true _ _ (both-left t u (spectral .first)) in
     record {
-      some = some-wholes _ (2 * len) _ n (div-add-mod' n (2 * len)) (eqb-true _ _ (both-left t u (whole .first))) (ltb-true _ _ (some .first));
-      few = leb-true _ _ (both-right t u (whole .first));
+      whole = wholes;
+      some = some-wholes _ (2 * len) _ n (div-add-mod' n (2 * len)) wholes (ltb-true _ _ (any .first));
+      few = leb-true _ _ (both-right t u (spectral .first));
+      rest = any .rest;
     }

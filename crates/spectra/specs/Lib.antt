@@ -2,4 +2,3 @@ pub mod Spectra
 pub mod Changes
 pub mod Accepted
 pub mod Flat
-pub mod Codes

@@ -1,10 +1,11 @@
 //! Times the proved port beside the Rust: same driver, same inputs, the median of several rounds. The
 //! first table has the operations of the layout, the second the functions of floats, the third the
-//! operations of acquisition.
+//! operations of acquisition, the fourth the grid.
 
 use oracle::answers;
 use oracle::args::Args;
 use oracle::bench_acquire;
+use oracle::bench_grid;
 use oracle::codes::{KINDS, Kinds, MODES, PHASES, kind_bytes, kinds_of_choice};
 use oracle::complex::{C32, C64};
 use oracle::ffi;
@@ -22,11 +23,11 @@ const USAGE: &str = "\
 bench: time the proved port beside the Rust
 
   --quick       fewer and shorter rounds
-  --only TABLE  nothing but one table: layout, floats or acquisition
+  --only TABLE  nothing but one table: layout, floats, acquisition or grid
   --help        this text";
 
 /// The tables that `--only` names.
-const TABLES: [&str; 3] = ["layout", "floats", "acquisition"];
+const TABLES: [&str; 4] = ["layout", "floats", "acquisition", "grid"];
 
 const FULL: Effort = Effort {
     rounds: 11,
@@ -535,7 +536,12 @@ fn print_floats(effort: &Effort) {
 
 fn main() {
     let options = options();
-    let tables: [fn(&Effort); 3] = [print_layout, print_floats, bench_acquire::print_table];
+    let tables: [fn(&Effort); 4] = [
+        print_layout,
+        print_floats,
+        bench_acquire::print_table,
+        bench_grid::print_table,
+    ];
     println!("{}, {}", processor(), date());
     for (name, print) in TABLES.into_iter().zip(tables) {
         if options.wants(name) {

@@ -1,6 +1,6 @@
 //! Holds the proved port against the Rust: every layout, every bin, every refusal at its boundary,
-//! random calls, the functions of floats, acquisition, and the program `segments`. Of acquisition it
-//! also holds the port against itself, on changed captures.
+//! random calls, the functions of floats, acquisition, the grid, and the program `segments`. Of
+//! acquisition it also holds the port against itself, on changed captures.
 
 use oracle::acquire_compare::{self, Plan};
 use oracle::acquire_port;
@@ -33,9 +33,9 @@ compare: hold the proved port against the Rust
   --floats N  random inputs of each function of floats (default 100,000,000; with --quick
               15,000,000)
   --captures N
-              random calls of each operation of acquisition, and changed captures of each
-              (default 20,000; with --quick 400)
-  --only PART nothing but one part: layouts, floats, acquisition or segments
+              random calls of each operation of acquisition and of the grid, and changed
+              captures of each operation of acquisition (default 20,000; with --quick 400)
+  --only PART nothing but one part: layouts, floats, acquisition, grid or segments
   --help      this text
 
 Environment: SILLURWY_SEGMENTS is the path of the program segments.
@@ -51,7 +51,7 @@ struct Options {
 }
 
 /// The parts that `--only` names.
-const PARTS: [&str; 4] = ["layouts", "floats", "acquisition", "segments"];
+const PARTS: [&str; 5] = ["layouts", "floats", "acquisition", "grid", "segments"];
 
 fn options() -> Options {
     let mut args = Args::new(USAGE);
@@ -114,6 +114,9 @@ impl Options {
                 self.captures
             );
         }
+        if self.wants("grid") {
+            counts += &format!(", {} random calls of the grid", self.captures);
+        }
         counts
     }
 
@@ -132,6 +135,7 @@ mod stream {
     pub const FLOATS: u64 = 400;
     pub const CAPTURES: u64 = 500;
     pub const CHANGES: u64 = 600;
+    pub const GRID: u64 = 800;
 }
 
 /// Kinds in a sample, for each mode.
@@ -142,7 +146,7 @@ const DAMAGED_LINES: u64 = 4096;
 const FLOATS: u64 = 100_000_000;
 /// The same with `--quick`.
 const QUICK_FLOATS: u64 = 15_000_000;
-/// Random calls of each operation of acquisition, unless `--captures` is given.
+/// Random calls of each operation of acquisition and of the grid, unless `--captures` is given.
 const CAPTURES: usize = 20_000;
 /// The same with `--quick`.
 const QUICK_CAPTURES: usize = 400;
@@ -346,6 +350,18 @@ fn compare_acquisition(options: &Options) -> (Vec<Row>, Provisos) {
     (rows, provisos)
 }
 
+fn compare_grid(options: &Options) -> Vec<Row> {
+    let start = Instant::now();
+    let plan = Plan {
+        seed: options.seed,
+        stream: stream::GRID,
+        cases: options.captures,
+    };
+    let rows = acquire_compare::compare_grid(&acquire_port::LINKED, plan);
+    eprintln!("the grid took {:.1} s", start.elapsed().as_secs_f64());
+    rows
+}
+
 /// Inputs that each take a run of the program: how they begin and end is what matters.
 fn whole_inputs(options: &Options) -> Vec<Vec<u8>> {
     let good: &[u8] = b"2,3,CDCDCDCDCDCDC";
@@ -437,6 +453,9 @@ fn main() -> ExitCode {
         let (more, counted) = compare_acquisition(&options);
         rows.extend(more);
         provisos = Some(counted);
+    }
+    if options.wants("grid") {
+        rows.extend(compare_grid(&options));
     }
     if options.wants("segments") {
         let segments = compare_segments(&options);

@@ -9,7 +9,7 @@ use oracle::isdb::params::{Mode, SEGMENTS};
 use oracle::isdb::tables;
 use oracle::rng::Rng;
 use oracle::segment_list::{answer, every_question, lines, random_question};
-use oracle::{stored_acquire, stored_floats};
+use oracle::{stored_acquire, stored_floats, stored_grid};
 use std::fs;
 use std::io::{self, Read, Write};
 use std::process::ExitCode;
@@ -23,6 +23,8 @@ store: write a sample of the oracle's answers
                               write the answers of acquisition to FILE
   store --floats FILE [--seed N]
                               write the answers of the functions of floats to FILE
+  store --grid FILE [--seed N]
+                              write the answers of the grid to FILE
   store --lines N [--seed N]  print N random questions for segments; `all` prints every one
   store --answers             print the answers to the questions on standard input
   --help                      this text
@@ -35,6 +37,7 @@ enum Task {
     Tables(String),
     Acquire(String),
     Floats(String),
+    Grid(String),
     Lines(u64),
     AllLines,
     Answers,
@@ -52,6 +55,7 @@ fn task() -> (Task, u64) {
             "--tables" => Task::Tables(args.value("--tables")),
             "--acquire" => Task::Acquire(args.value("--acquire")),
             "--floats" => Task::Floats(args.value("--floats")),
+            "--grid" => Task::Grid(args.value("--grid")),
             "--answers" => Task::Answers,
             "--lines" => lines_task(&mut args),
             option if option.starts_with('-') => args.fail(format!("unknown word {option}")),
@@ -190,6 +194,7 @@ fn main() -> ExitCode {
         Task::Tables(path) => fs::write(path, tables()),
         Task::Acquire(path) => fs::write(path, stored_acquire::stored(seed)),
         Task::Floats(path) => fs::write(path, stored_floats::stored(seed)),
+        Task::Grid(path) => fs::write(path, stored_grid::stored(seed)),
         Task::Lines(count) => print_lines((0..count).map(|_| random_question(&mut rng))),
         Task::AllLines => print_lines(every_question()),
         Task::Answers => print_answers(),

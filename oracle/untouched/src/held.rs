@@ -2,11 +2,13 @@
 
 use crate::C32;
 use crate::acquire;
+use crate::chanest::ChannelEstimator;
 use oracle::acquire_answers as answers;
 use oracle::acquire_calls::{GuessCall, KindsCall, PhaseCall, ShiftCall, TmccCall};
 use oracle::acquire_cases::Cases;
 use oracle::codes::{guards_of, kinds_of, mode_of, modes_of};
 use oracle::floats::Value;
+use oracle::grid_calls::GridCall;
 use oracle::isdb::frame::{FrameLayout, SegmentKind};
 use std::fmt::Debug;
 
@@ -15,7 +17,7 @@ use std::fmt::Debug;
 pub enum Departs {
     /// The answer: shift, kinds, phase, what was guessed.
     Answer,
-    /// Only a score, a ratio, votes and their share, a metric or a value.
+    /// Only a score, a ratio, votes and their share, a metric, a value or points of the grid.
     Float,
 }
 
@@ -204,5 +206,29 @@ impl Held for GuessCall {
 
     fn given(&self) -> &[f32] {
         &self.samples.0
+    }
+}
+
+impl Held for GridCall {
+    fn held(&self) -> Result<Both, u8> {
+        let oracle = self.answer(&vec![0.0; self.grid])?;
+        let mode = mode_of(self.mode)?;
+        let layout = FrameLayout::new(mode, kinds_of(&self.kinds)?);
+        let spectra = spectra_of(&self.spectra.0, mode.total_carriers());
+        let ring = |offset: i32| {
+            let at = self.index.checked_add_signed(offset as isize)?;
+            spectra.get(at).map(Vec::as_slice)
+        };
+        let mut estimator = ChannelEstimator::new(&layout);
+        estimator.estimate(&spectra[self.index], ring, self.phase.into(), self.w);
+        let parts = |pair: &C32| [pair.re, pair.im];
+        let grid: Vec<f32> = estimator.grid.iter().flat_map(parts).collect();
+        let mut both = Both::default();
+        both.floats("floats of the grid", &oracle, &grid);
+        Ok(both)
+    }
+
+    fn given(&self) -> &[f32] {
+        &self.spectra.0
     }
 }

@@ -2,6 +2,7 @@
 
 use oracle::acquire_calls::{GuessCall, KindsCall, PhaseCall, ShiftCall, TmccCall};
 use oracle::args::Args;
+use oracle::grid_calls::GridCall;
 use std::time::Instant;
 use untouched::by_hand;
 use untouched::count::{Counted, Row};
@@ -51,6 +52,7 @@ mod stream {
     pub const PHASE: u64 = 502;
     pub const TMCC: u64 = 503;
     pub const GUESS: u64 = 505;
+    pub const GRID: u64 = 800;
     pub const WHOLE: u64 = 700;
     pub const FINITE: u64 = 710;
     pub const NEAREST: u64 = 720;
@@ -104,6 +106,7 @@ fn all_random_calls(options: &Options) {
         random_calls::<KindsCall>(options, stream::KINDS),
         random_calls::<PhaseCall>(options, stream::PHASE),
         random_calls::<TmccCall>(options, stream::TMCC),
+        random_calls::<GridCall>(options, stream::GRID),
     ];
     println!("\nSmallest departing calls found, by operation, kind of input and what departs:");
     println!("{}", smallest.concat());
@@ -120,6 +123,7 @@ fn all_odd_calls(options: &Options) {
         odd_calls::<KindsCall>(options, stream::KINDS),
         odd_calls::<PhaseCall>(options, stream::PHASE),
         odd_calls::<TmccCall>(options, stream::TMCC),
+        odd_calls::<GridCall>(options, stream::GRID),
     ];
     println!("\nSmallest departing calls found:\n{}", smallest.concat());
 }

@@ -1,8 +1,9 @@
 // Carried over from isdb-rs 754ed06c49 (Apache-2.0, see NOTICE).
 // From crates/isdbt-ofdm/src/rx/mod.rs. Changed: `continual_list` is public. Left out: everything
-// else of that file but the line of `acquire`.
+// else of that file but the lines of `acquire` and `chanest`.
 
 pub mod acquire;
+pub mod chanest;
 
 use crate::isdb::frame::FrameLayout;
 
