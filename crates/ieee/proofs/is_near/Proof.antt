@@ -1,4 +1,4 @@
--- `ieee::is_near` meets its contract: its two tests are the contract's, the lower one written with 8 * y + 4, and 28 digits squared fit a word.
+-- `ieee::is_near` meets its contract: its two tests are the contract's, the lower one written with 8 * y + 4, and 27 digits squared fit a word.
 -- Assumes nothing.
 use mathlib.Core.Path.{_≡_, sym, subst}
 use Prim.Native.Nat.{ℕ, _+_, _-_, _*_, _≤_, _<_}
