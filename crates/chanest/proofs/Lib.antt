@@ -1,6 +1,5 @@
 -- Laws that belong to no one function.
 pub mod Searching
-pub mod Signed
 pub mod Summing
 pub mod Carriers
 pub mod PairSums

@@ -7,19 +7,12 @@ use mathlib.Core.Path.{_≡_, sym, ap, _∙_}
 use native.Mathlib.Decide.{decLt}
 use native.Mathlib.Nat.{add-suc, add-zero}
 use native.Mathlib.Omega.{arith}
-use borrow.Author.Tests.{lt-ltb, le-ltb, le-leb, lt-leb}
-use lib.IntN.{ℤ, pos, negsuc}
+use borrow.Author.Tests.{lt-ltb, le-ltb}
 use lib.Ieee.{minus}
+use Rattle.ieee.specs.Differences.{minus-above, minus-below}
 use Rattle.lists.specs.Lists.{upTo, joined}
 use Rattle.lists.specs.Fill.{joined-append}
 use Rattle.chanest.specs.Window.{offsets, atOffset, inWindow}
-
--- ---- the difference of two numbers
-pub minus-above : (a b : ℕ) → b ≤ a → minus a b ≡ pos (a - b)
-minus-above a b h = rw (le-leb b a h)
-
-pub minus-below : (a b : ℕ) → a < b → minus a b ≡ negsuc (b - suc a)
-minus-below a b h = rw (lt-leb b a h)
 
 -- ---- one offset, x behind the first
 module _ (n t before x : ℕ) where

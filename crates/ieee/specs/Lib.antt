@@ -20,3 +20,4 @@ pub mod RootShift
 pub mod Nearest
 pub mod RootGain
 pub mod Worked
+pub mod Differences

@@ -6,10 +6,11 @@ use mathlib.Core.List.{List, [], _∷_}
 use mathlib.Core.Path.{_≡_, refl, sym, ap, _∙_}
 use native.Mathlib.Omega.{arith}
 use borrow.Author.Tests.{eq-eqb, ne-eqb, le-leb, lt-leb, not-false, not-true}
-use lib.Dec.{T, eqb, le→leb}
+use lib.Dec.{T, eqb}
 use lib.IntN.{pos}
 use lib.ListN.{length, getD}
 use lib.Ieee.{Float, binary32, div, ofInt, inFloat}
+use Rattle.ieee.specs.Differences.{held-exactly}
 use Rattle.lists.specs.Refusals.{unless}
 use Rattle.params.specs.declared.Mode.{Mode}
 use Rattle.params.specs.declared.ModeNumber.{ModeNumber}
@@ -41,15 +42,13 @@ module _ (m : Mode) (xs : List Float) {k : ℕ} (sizes : k ≡ totalCarriers m) 
 
   -- so few votes are a whole f32
   pub whole-votes : (kinds : List ℕ) {counts : List ℕ} {won : ℕ} → counts ≡ countsOf (votes m kinds xs) → Won counts won → T (inFloat binary32 (pos (getD counts won 0)))
-  unfolding inFloat
   whole-votes kinds {counts} {won} c v =
       let n : getD counts won 0 ≡ countOf (votes m kinds xs) won = rw c (counts-at (votes m kinds xs) won (v .phase)) in
-      le→leb (getD counts won 0) 16777216 (omega (arith, n, count-few (votes m kinds xs) won, votes-length m kinds xs, rw sizes at f))
+      held-exactly (pos (getD counts won 0)) (omega (arith, n, count-few (votes m kinds xs) won, votes-length m kinds xs, rw sizes at f))
 
 -- and so few spectra
 pub whole-total : {n all : ℕ} → n ≤ 1024 → all ≡ cond (eqb n 0) 1 n → T (inFloat binary32 (pos all))
-unfolding inFloat
-whole-total {n} {all} f b = le→leb all 16777216 (omega (arith, b, by (eqb n 0)))
+whole-total {n} {all} f b = held-exactly (pos all) (omega (arith, b, by (eqb n 0)))
   where
     by : (t : Bool) → cond t 1 n ≤ 1024
     by true = omega arith

@@ -209,13 +209,6 @@ fn next_to(counts: [u32; 4], p: usize) -> u32
     most
 }
 
-// Room for the signs of the largest band. The `ensures` gives the length alone.
-fn sign_buffer() -> [u8; 5617]
-    ensures { λ r. ⌜ 5617 ≡ length r ⌝ }
-{
-    [0; 5617]
-}
-
 // An answer in which nothing was counted.
 fn nothing(code: u8) -> PilotAnswer
     ensures { λ r. ⌜ Nothing code r ⌝ }
@@ -270,7 +263,7 @@ pub fn detect_sp_phase(mode: u8, kinds: &[u8], spectra: &[f32]) -> PilotAnswer
     if !has_pilots(layout) {
         return nothing(0);
     }
-    let mut buffer = sign_buffer();
+    let mut buffer = prbs::sign_buffer();
     prbs::band_w(m, &mut buffer[..k]);
     let counts = count_votes(layout, spectra, &buffer[..k]);
     let won = won_by(counts);

@@ -5,10 +5,11 @@ use mathlib.Core.Bool.{Bool, true, false, cond}
 use mathlib.Core.List.{List, [], _∷_, _++_, map-append}
 use mathlib.Core.Path.{_≡_, refl, _∙_}
 use native.Mathlib.Omega.{arith}
-use lib.Dec.{T, le→leb}
+use lib.Dec.{T}
 use lib.IntN.{pos}
 use lib.ListN.{length, getD, length-append}
 use lib.Ieee.{Float, Format, nan, binary32, div, ofInt, inFloat}
+use Rattle.ieee.specs.Differences.{held-exactly}
 use Rattle.ieee.specs.Constants.{minusZero}
 use Rattle.ieee.specs.Sums.{total, total-append}
 use Rattle.lists.specs.Lists.{select}
@@ -66,8 +67,7 @@ module _ (tmcc ac1 ac2 differential : List ℕ) (ratios : List Float) (p : Scora
       module _ (m : Mean) (h : Added b (kept tmcc ac1 differential) ratios m) where
         -- so few are a whole f32
         pub whole-count : T (inFloat binary32 (pos (m .count)))
-        unfolding inFloat
-        whole-count = le→leb (m .count) 16777216 (omega (arith, few-more, added-few tmcc ac1 differential ratios b m h, p .tmcc-short))
+        whole-count = held-exactly (pos (m .count)) (omega (arith, few-more, added-few tmcc ac1 differential ratios b m h, p .tmcc-short))
 
         pub mean : s .sum ≡ minusZero → div binary32 (m .sum) (ofInt binary32 (pos (m .count))) ≡ meanOf (kept tmcc ac1 (0 ∷ (ac2 ++ differential))) ratios
         unfolding meanOf

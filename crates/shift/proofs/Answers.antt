@@ -50,7 +50,7 @@ ratios-length n xs now e = rw e (length-upTo _ n)
 pub mode-bins : (m : Mode) (n : ℕ) → n ≡ fftSize m → (0 < n) × (n ≤ 8192)
 mode-bins m n e = omega (arith, sized m .band, sized m .within, sized m .fft-high)
 
-pub shift-small : (m : Mode) (n at bound : ℕ) → n ≡ fftSize m → bound ≤ n / 2 → at ≤ 2 * bound → at + bound ≤ 16384
+pub shift-small : (m : Mode) (n at bound : ℕ) → n ≡ fftSize m → bound ≤ n / 2 → at ≤ 2 * bound → at + bound < 16777216
 shift-small m n at bound size h i = omega (arith, mode-bins m n size)
 
 pub searchable : (m : Mode) (xs now : List Float) (n bound : ℕ) → n ≡ fftSize m → now ≡ ratios n xs → bound ≤ n / 2 → Bounded (length now) bound

@@ -15,7 +15,8 @@ use Rattle.shift.specs.declared.Best.{Best}
 use Rattle.shift.specs.Shift.{sumAt, Winner, winner, searched, shifts}
 use Rattle.shift.specs.Inner.{sumUp, Bounded, Found}
 use Rattle.shift.specs.Searches.{searched-more}
-use Rattle.shift.proofs.Places.{minus-self, sum-moved}
+use Rattle.ieee.specs.Differences.{minus-self}
+use Rattle.shift.proofs.Places.{sum-moved}
 
 module _ (bins : List ℕ) (ratios : List Float) (bound : ℕ) where
   -- the winner of the j lowest shifts

@@ -4,6 +4,5 @@ pub mod AcRow
 pub mod Segments
 pub mod Places
 pub mod Finding
-pub mod Signed
 pub mod Codes
 pub mod Answers

@@ -6,23 +6,13 @@ use mathlib.Core.Path.{_≡_, sym, ap, _∙_}
 use native.Mathlib.Decide.{decLt}
 use native.Mathlib.Nat.{add-mod-right, add-mul-mod-self-right, mul-suc, suc-mul}
 use native.Mathlib.Omega.{arith}
-use borrow.Author.Tests.{le-leb, lt-leb}
-use lib.IntN.{pos, negsuc}
 use lib.ListN.{length, getD}
 use lib.Ieee.{Float, nan, binary32, minus}
 use Rattle.ieee.specs.Constants.{minusZero}
 use Rattle.ieee.specs.Sums.{total}
+use Rattle.ieee.specs.Differences.{minus-above, minus-below}
 use Rattle.shift.specs.Shift.{movedBin, sumAt}
 use Rattle.shift.specs.Inner.{sumUp}
-
-pub minus-above : (a b : ℕ) → b ≤ a → minus a b ≡ pos (a - b)
-minus-above a b h = rw (le-leb b a h)
-
-pub minus-below : (a b : ℕ) → a < b → minus a b ≡ negsuc (b - suc a)
-minus-below a b h = rw (lt-leb b a h)
-
-pub minus-self : (a : ℕ) → minus a a ≡ pos 0
-minus-self a = minus-above a a (omega arith) ∙ ap pos (omega arith)
 
 -- steps of n - 1 are turns of n, less the steps
 turns : (n d : ℕ) → 0 < n → suc d ≤ n → suc d * (n - 1) ≡ (n - suc d) + d * n

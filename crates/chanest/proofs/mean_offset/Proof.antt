@@ -4,7 +4,7 @@ use Prim.Native.Nat.{_-_, _≤_}
 use mathlib.Core.Path.{_≡_, refl}
 use native.Mathlib.Omega.{arith}
 use Rattle.ieee.specs.Sums.{total}
-use Rattle.chanest.proofs.Signed.{held-exactly}
+use Rattle.ieee.specs.Differences.{held-exactly}
 use Rattle.chanest.proofs.Summing.{sumTo, sum-more, sum-done, offsetAt, mean-is}
 use Rattle.chanest.proofs.mean_offset.Statement.{statement}
 use Rattle.chanest.proofs.mean_offset.Tie as tie

@@ -8,7 +8,7 @@ use lib.IntN.{pos}
 use Rattle.complex.specs.Complex.{of32}
 use Rattle.chanest.specs.Inner.{valueIn}
 use Rattle.chanest.proofs.PairSums.{Summed, begin, further, done, mean-is}
-use Rattle.chanest.proofs.Signed.{held-exactly}
+use Rattle.ieee.specs.Differences.{held-exactly}
 use Rattle.chanest.proofs.mean_value.Statement.{statement}
 use Rattle.chanest.proofs.mean_value.Tie as tie
 

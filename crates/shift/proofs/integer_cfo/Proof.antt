@@ -1,8 +1,9 @@
 -- `shift::integer_cfo` meets its contract: each refusal is the case that the tests decide, and the search's best place is the winner.
 -- Assumes nothing.
 use mathlib.Core.Path.{sym, _∙_}
+use lib.IntN.{pos}
 use Rattle.spectra.specs.Accepted.{accepted}
-use Rattle.shift.proofs.Signed.{held-exactly, shift-fits, shift-is}
+use Rattle.ieee.specs.Differences.{held-exactly, difference-fits, difference-is}
 use Rattle.shift.proofs.Codes.{by-spectra, by-length, by-bound, by-none}
 use Rattle.shift.proofs.Answers.{front-few, front-fits, front-is, front-length, mode-bins, shift-small, searchable, bad-mode, refused, answered}
 use borrow.Author.Needs.{needs}
@@ -85,12 +86,12 @@ sub-shift : tie.Need-sub-shift
 sub-shift c =
     let k = c .before .before .before .before .before .before .before .before .before .before in
     let f = k .before .before .before .before .before .before in
-    shift-fits _ _ (shift-small (f .before .before .m .given .0 .0) _ _ _ (f .fft-size .ensures) (k .before .before .if3 .left) (c .before .search .ensures .inside))
+    difference-fits _ _ (shift-small (f .before .before .m .given .0 .0) _ _ _ (f .fft-size .ensures) (k .before .before .if3 .left) (c .before .search .ensures .inside))
 
 int-to-float-t27 : tie.Need-int-to-float-t27
 int-to-float-t27 c =
     let p = c .before .before .before .before .before .before in
-    held-exactly _ (front-few _ _ _ _ (p .put-pattern .ensures) (p .before .before .pattern-buffer .ensures))
+    held-exactly (pos _) (omega (arith, front-few _ _ _ _ (p .put-pattern .ensures) (p .before .before .pattern-buffer .ensures)))
 
 same-length : tie.Need-same-length
 same-length c = search needs
@@ -109,7 +110,7 @@ returns-5 c =
     (by-none _ _ _ _ _ _ bins (r .refusal .ensures) (k .before .before .before .before .if1 .left) (k .before .before .before .if2 .left) bounded)
     bins (k .continual-metric .ensures)
     (front-is _ _ _ _ (p .put-pattern .ensures) size) (front-length _ _ _ _ (p .put-pattern .ensures) size) (e .search .ensures)
-    (shift-is _ _ (shift-small (f .before .before .m .given .0 .0) _ _ _ bins bounded (e .search .ensures .inside)))
+    (difference-is _ _ (shift-small (f .before .before .m .given .0 .0) _ _ _ bins bounded (e .search .ensures .inside)))
 
 pub integer-cfo-spec : {M : Type 1} → statement M
 integer-cfo-spec =
