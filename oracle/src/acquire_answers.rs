@@ -1,14 +1,15 @@
 //! What the oracle answers to each operation of acquisition: the refusals in their order, then what
 //! the Rust computes. Lengths of lent outputs are arguments, since refusals hang on them.
+//!
+//! `untouched` compiles this file a second time. So what differs there is taken from `super`.
 
-use crate::C32;
+use super::{C32, acquire};
+pub use crate::acquire_found::{Guess, KindsFound, Phase, Shift};
 use crate::codes::{
     BAD_BOUND, BAD_FILTER, BAD_FLOATS, BAD_LENGTH, BAD_SYMBOLS, NO_SPECTRA, guards_of, kinds_of,
     mode_of, modes_of,
 };
 use crate::isdb::frame::{FrameLayout, SegmentKind};
-use crate::isdb::params::SEGMENTS;
-use crate::isdb::rx::acquire;
 
 /// The most spectra.
 pub const MOST_SPECTRA: usize = 1024;
@@ -16,56 +17,6 @@ pub const MOST_SPECTRA: usize = 1024;
 pub const MOST_SAMPLES: usize = 1 << 20;
 /// The most symbols of `samples_needed`.
 pub const MOST_SYMBOLS: usize = 64;
-
-/// What the shift gives and leaves behind.
-#[derive(Debug, Clone, PartialEq)]
-pub struct Shift {
-    /// The shift.
-    pub shift: i64,
-    /// Its score.
-    pub score: f32,
-    /// Each bin's ratio.
-    pub ratios: Vec<f32>,
-}
-
-/// What the kinds give and leave behind.
-#[derive(Debug, Clone, PartialEq)]
-pub struct KindsFound {
-    /// Each segment's kind, 0 or 1.
-    pub kinds: [u8; SEGMENTS],
-    /// Each segment's score.
-    pub scores: [f32; SEGMENTS],
-    /// Each carrier's ratio.
-    pub ratios: Vec<f32>,
-}
-
-/// What the pilot phase gives.
-#[derive(Debug, Clone, PartialEq)]
-pub struct Phase {
-    /// The phase and its share, if there are scattered pilots.
-    pub found: Option<(u8, f32)>,
-    /// The votes for each phase.
-    pub counts: [u32; 4],
-    /// The largest count less the largest of the other three.
-    pub lead: u32,
-}
-
-/// The guess.
-#[derive(Debug, Clone, Copy, PartialEq)]
-pub struct Guess {
-    /// Mode.
-    pub mode: u8,
-    /// Guard, by its denominator.
-    pub guard: u8,
-    /// Where a guard interval starts.
-    pub offset: usize,
-    /// Normalised correlation.
-    pub metric: f64,
-    /// Real part of the summed correlation.
-    pub re: f64,
-    /// Imaginary part of the summed correlation.
-    pub im: f64,
-}
 
 /// The pairs of a list of floats.
 pub fn pairs(floats: &[f32]) -> Vec<C32> {

@@ -1,5 +1,5 @@
-//! Calls of the operations of acquisition. Each is made to a port and held against the oracle: the
-//! code, every lent buffer, and what lies around it.
+//! Calls of the operations of acquisition. Each is made to a port and held against the oracle, and
+//! against the untouched Rust: the code, every lent buffer, and what lies around it.
 
 use crate::acquire_answers as answers;
 use crate::acquire_port::{GuessOut, PhaseOut, Port};
@@ -8,6 +8,7 @@ use crate::calls::{Outcome, readable};
 use crate::check::code;
 use crate::isdb::params::SEGMENTS;
 use crate::lent::{Lent, Pattern, Shown};
+use crate::untouched::answers as untouched;
 use std::cmp::Ordering;
 use std::fmt;
 
@@ -68,7 +69,8 @@ impl fmt::Display for Floats {
 
 /// A call of one operation.
 pub trait Asked: Clone + Ord + fmt::Display + Send + Sync {
-    /// Makes the call to a port and holds it against the oracle.
+    /// Makes the call to a port and holds it against the oracle, and against the untouched Rust
+    /// where that is compiled.
     fn run(&self, port: &Port, salt: u64) -> Outcome;
 
     /// The floats that it hands over.
@@ -105,24 +107,28 @@ pub struct ShiftCall {
 
 impl Asked for ShiftCall {
     fn run(&self, port: &Port, salt: u64) -> Outcome {
-        let answer = answers::integer_cfo(self.mode, &self.spectra.0, self.bound, self.ratios);
-        let spectra = Shown::new(&self.spectra.0);
+        let (mode, floats) = (self.mode, &self.spectra.0);
+        let answer = answers::integer_cfo(mode, floats, self.bound, self.ratios);
+        let untouched = untouched::integer_cfo(mode, floats, self.bound, self.ratios);
+        let spectra = Shown::new(floats);
         let mut ratios = Lent::new(self.ratios, salt);
         let (mut shift, mut score) = (Lent::one(salt), Lent::one(salt));
         let given = (port.integer_cfo)(
-            self.mode,
+            mode,
             spectra.slice(),
             self.bound,
             ratios.slice(),
             shift.entry(),
             score.entry(),
         );
-        let difference = code(given, &answer)
-            .or_else(|| differs(&ratios, "ratios", &answer, |a| a.ratios.clone()))
-            .or_else(|| differs(&shift, "shift", &answer, |a| vec![a.shift]))
-            .or_else(|| differs(&score, "score", &answer, |a| vec![a.score]))
-            .or_else(|| spectra.written("spectra"));
-        Outcome::new(&answer, difference)
+        let against = |answer: &Result<answers::Shift, u8>| {
+            code(given, answer)
+                .or_else(|| differs(&ratios, "ratios", answer, |a| a.ratios.clone()))
+                .or_else(|| differs(&shift, "shift", answer, |a| vec![a.shift]))
+                .or_else(|| differs(&score, "score", answer, |a| vec![a.score]))
+                .or_else(|| spectra.written("spectra"))
+        };
+        Outcome::of_both(&answer, &untouched, against)
     }
 
     fn floats(&mut self) -> Option<&mut Floats> {
@@ -158,24 +164,28 @@ pub struct KindsCall {
 
 impl Asked for KindsCall {
     fn run(&self, port: &Port, salt: u64) -> Outcome {
-        let answer = answers::detect_kinds(self.mode, &self.spectra.0, self.ratios);
-        let spectra = Shown::new(&self.spectra.0);
+        let (mode, floats) = (self.mode, &self.spectra.0);
+        let answer = answers::detect_kinds(mode, floats, self.ratios);
+        let untouched = untouched::detect_kinds(mode, floats, self.ratios);
+        let spectra = Shown::new(floats);
         let mut ratios = Lent::new(self.ratios, salt);
         let mut kinds = Lent::new(SEGMENTS, salt);
         let mut scores = Lent::new(SEGMENTS, salt);
         let given = (port.detect_kinds)(
-            self.mode,
+            mode,
             spectra.slice(),
             ratios.slice(),
             kinds.array(),
             scores.array(),
         );
-        let difference = code(given, &answer)
-            .or_else(|| differs(&ratios, "ratios", &answer, |a| a.ratios.clone()))
-            .or_else(|| differs(&scores, "scores", &answer, |a| a.scores.to_vec()))
-            .or_else(|| differs(&kinds, "kinds", &answer, |a| a.kinds.to_vec()))
-            .or_else(|| spectra.written("spectra"));
-        Outcome::new(&answer, difference)
+        let against = |answer: &Result<answers::KindsFound, u8>| {
+            code(given, answer)
+                .or_else(|| differs(&ratios, "ratios", answer, |a| a.ratios.clone()))
+                .or_else(|| differs(&scores, "scores", answer, |a| a.scores.to_vec()))
+                .or_else(|| differs(&kinds, "kinds", answer, |a| a.kinds.to_vec()))
+                .or_else(|| spectra.written("spectra"))
+        };
+        Outcome::of_both(&answer, &untouched, against)
     }
 
     fn floats(&mut self) -> Option<&mut Floats> {
@@ -212,21 +222,25 @@ pub struct TmccCall {
 
 impl Asked for TmccCall {
     fn run(&self, port: &Port, salt: u64) -> Outcome {
-        let answer = answers::tmcc_soft(self.mode, &self.kinds, &self.spectra.0, self.filter);
-        let (kinds, spectra) = (Shown::new(&self.kinds), Shown::new(&self.spectra.0));
+        let (mode, floats) = (self.mode, &self.spectra.0);
+        let answer = answers::tmcc_soft(mode, &self.kinds, floats, self.filter);
+        let untouched = untouched::tmcc_soft(mode, &self.kinds, floats, self.filter);
+        let (kinds, spectra) = (Shown::new(&self.kinds), Shown::new(floats));
         let mut value = Lent::one(salt);
         let given = (port.tmcc_soft)(
-            self.mode,
+            mode,
             kinds.slice(),
             spectra.slice(),
             self.filter,
             value.entry(),
         );
-        let difference = code(given, &answer)
-            .or_else(|| differs(&value, "value", &answer, |&a| vec![a]))
-            .or_else(|| kinds.written("kinds"))
-            .or_else(|| spectra.written("spectra"));
-        Outcome::new(&answer, difference)
+        let against = |answer: &_| {
+            code(given, answer)
+                .or_else(|| differs(&value, "value", answer, |&a| vec![a]))
+                .or_else(|| kinds.written("kinds"))
+                .or_else(|| spectra.written("spectra"))
+        };
+        Outcome::of_both(&answer, &untouched, against)
     }
 
     fn floats(&mut self) -> Option<&mut Floats> {
@@ -260,8 +274,10 @@ pub struct PhaseCall {
 
 impl Asked for PhaseCall {
     fn run(&self, port: &Port, salt: u64) -> Outcome {
-        let answer = answers::detect_sp_phase(self.mode, &self.kinds, &self.spectra.0);
-        let (kinds, spectra) = (Shown::new(&self.kinds), Shown::new(&self.spectra.0));
+        let (mode, floats) = (self.mode, &self.spectra.0);
+        let answer = answers::detect_sp_phase(mode, &self.kinds, floats);
+        let untouched = untouched::detect_sp_phase(mode, &self.kinds, floats);
+        let (kinds, spectra) = (Shown::new(&self.kinds), Shown::new(floats));
         let (mut found, mut phase) = (Lent::one(salt), Lent::one(salt));
         let (mut share, mut lead) = (Lent::one(salt), Lent::one(salt));
         let mut counts = Lent::new(4, salt);
@@ -272,19 +288,21 @@ impl Asked for PhaseCall {
             counts: counts.array(),
             lead: lead.entry(),
         };
-        let given = (port.detect_sp_phase)(self.mode, kinds.slice(), spectra.slice(), out);
+        let given = (port.detect_sp_phase)(mode, kinds.slice(), spectra.slice(), out);
         let is_found = |a: &answers::Phase| vec![u8::from(a.found.is_some())];
         let the_phase = |a: &answers::Phase| a.found.iter().map(|found| found.0).collect();
         let the_share = |a: &answers::Phase| a.found.iter().map(|found| found.1).collect();
-        let difference = code(given, &answer)
-            .or_else(|| differs(&found, "found", &answer, is_found))
-            .or_else(|| differs(&counts, "counts", &answer, |a| a.counts.to_vec()))
-            .or_else(|| differs(&lead, "lead", &answer, |a| vec![a.lead]))
-            .or_else(|| differs(&phase, "phase", &answer, the_phase))
-            .or_else(|| differs(&share, "share", &answer, the_share))
-            .or_else(|| kinds.written("kinds"))
-            .or_else(|| spectra.written("spectra"));
-        Outcome::new(&answer, difference)
+        let against = |answer: &_| {
+            code(given, answer)
+                .or_else(|| differs(&found, "found", answer, is_found))
+                .or_else(|| differs(&counts, "counts", answer, |a| a.counts.to_vec()))
+                .or_else(|| differs(&lead, "lead", answer, |a| vec![a.lead]))
+                .or_else(|| differs(&phase, "phase", answer, the_phase))
+                .or_else(|| differs(&share, "share", answer, the_share))
+                .or_else(|| kinds.written("kinds"))
+                .or_else(|| spectra.written("spectra"))
+        };
+        Outcome::of_both(&answer, &untouched, against)
     }
 
     fn floats(&mut self) -> Option<&mut Floats> {
@@ -318,15 +336,18 @@ pub struct NeededCall {
 impl Asked for NeededCall {
     fn run(&self, port: &Port, salt: u64) -> Outcome {
         let answer = answers::samples_needed(&self.modes, &self.guards, self.symbols);
+        let untouched = untouched::samples_needed(&self.modes, &self.guards, self.symbols);
         let (modes, guards) = (Shown::new(&self.modes), Shown::new(&self.guards));
         let mut samples = Lent::one(salt);
         let given =
             (port.samples_needed)(modes.slice(), guards.slice(), self.symbols, samples.entry());
-        let difference = code(given, &answer)
-            .or_else(|| differs(&samples, "samples", &answer, |&a| vec![a]))
-            .or_else(|| modes.written("modes"))
-            .or_else(|| guards.written("guards"));
-        Outcome::new(&answer, difference)
+        let against = |answer: &_| {
+            code(given, answer)
+                .or_else(|| differs(&samples, "samples", answer, |&a| vec![a]))
+                .or_else(|| modes.written("modes"))
+                .or_else(|| guards.written("guards"))
+        };
+        Outcome::of_both(&answer, &untouched, against)
     }
 
     fn floats(&mut self) -> Option<&mut Floats> {
@@ -422,8 +443,10 @@ impl GuessLent {
 
 impl Asked for GuessCall {
     fn run(&self, port: &Port, salt: u64) -> Outcome {
-        let answer = answers::detect_mode(&self.samples.0, &self.modes, &self.guards, self.scratch);
-        let samples = Shown::new(&self.samples.0);
+        let (floats, scratch) = (&self.samples.0, self.scratch);
+        let answer = answers::detect_mode(floats, &self.modes, &self.guards, scratch);
+        let untouched = untouched::detect_mode(floats, &self.modes, &self.guards, scratch);
+        let samples = Shown::new(floats);
         let (modes, guards) = (Shown::new(&self.modes), Shown::new(&self.guards));
         let mut scratch = Lent::new(self.scratch, salt);
         let mut guess = GuessLent::new(salt);
@@ -435,13 +458,15 @@ impl Asked for GuessCall {
             guess.out(),
         );
         let zeros = |_: &Option<answers::Guess>| vec![0.0; self.scratch];
-        let difference = code(given, &answer)
-            .or_else(|| guess.difference(&answer))
-            .or_else(|| differs(&scratch, "scratch", &answer, zeros))
-            .or_else(|| samples.written("samples"))
-            .or_else(|| modes.written("modes"))
-            .or_else(|| guards.written("guards"));
-        Outcome::new(&answer, difference)
+        let against = |answer: &_| {
+            code(given, answer)
+                .or_else(|| guess.difference(answer))
+                .or_else(|| differs(&scratch, "scratch", answer, zeros))
+                .or_else(|| samples.written("samples"))
+                .or_else(|| modes.written("modes"))
+                .or_else(|| guards.written("guards"))
+        };
+        Outcome::of_both(&answer, &untouched, against)
     }
 
     fn floats(&mut self) -> Option<&mut Floats> {

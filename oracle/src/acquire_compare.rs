@@ -50,8 +50,10 @@ fn compare_calls<C: Asked>(
         let Outcome {
             refused,
             difference,
+            departs,
         } = call.run(port, index as u64);
         tally.count(refused, difference, || call);
+        tally.count_departure(departs);
     });
     tally.simplify(|call, found| {
         simpler(call, found, C::floats, |call| call.run(port, 0).difference)

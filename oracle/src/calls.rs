@@ -81,6 +81,8 @@ pub struct Outcome {
     pub refused: bool,
     /// The first difference, if any.
     pub difference: Option<String>,
+    /// If the untouched Rust departs from the port; none where it was not asked.
+    pub departs: Option<bool>,
 }
 
 impl Outcome {
@@ -89,6 +91,20 @@ impl Outcome {
         Self {
             refused: answer.is_err(),
             difference,
+            departs: None,
+        }
+    }
+
+    /// The outcome where the oracle and the untouched Rust gave answers, each of which is held
+    /// `against` what the port gave.
+    pub fn of_both<T>(
+        answer: &Result<T, u8>,
+        untouched: &Result<T, u8>,
+        against: impl Fn(&Result<T, u8>) -> Option<String>,
+    ) -> Self {
+        Self {
+            departs: Some(against(untouched).is_some()),
+            ..Self::new(answer, against(answer))
         }
     }
 }

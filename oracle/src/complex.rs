@@ -1,83 +1,132 @@
 //! Complex numbers: a pair of floats by value, each operation rounded once, in num-complex's order.
 //!
-//! Stands in for the crate num-complex, which isdb-rs uses. The two norms have exact roots: the
-//! square root of `f64` is the nearest one.
+//! Stands in for the crate num-complex, which isdb-rs uses. The oracle's two norms have exact roots:
+//! the square root of `f64` is the nearest one. Those of [`hypot`] are num-complex's.
 
 use std::iter::Sum;
+use std::marker::PhantomData;
 use std::ops::{Add, AddAssign, Div, Mul, Neg, Sub};
 
-/// The pair (re, im).
+/// The pair (re, im), with the norm `N`.
 #[derive(Debug, Clone, Copy, PartialEq, Default)]
-pub struct Complex<T> {
+pub struct Complex<T, N> {
     /// Real part.
     pub re: T,
     /// Imaginary part.
     pub im: T,
+    norm: PhantomData<N>,
 }
 
-/// Complex baseband value.
-pub type C32 = Complex<f32>;
-/// Complex value of the sums that isdb-rs takes in `f64`.
-pub type C64 = Complex<f64>;
+/// A norm of pairs of `T`.
+pub trait Norm<T> {
+    /// The norm of (re, im).
+    fn norm(re: T, im: T) -> T;
+}
 
-impl<T> Complex<T> {
+/// The requirement's norms.
+#[derive(Debug, Clone, Copy, PartialEq, Default)]
+pub struct Exact;
+
+/// num-complex's norms.
+#[derive(Debug, Clone, Copy, PartialEq, Default)]
+pub struct Hypot;
+
+/// Complex baseband value.
+pub type C32 = Complex<f32, Exact>;
+/// Complex value of the sums that isdb-rs takes in `f64`.
+pub type C64 = Complex<f64, Exact>;
+
+/// The same pairs with num-complex's norms.
+pub mod hypot {
+    use super::{Complex, Hypot};
+
+    /// Complex baseband value.
+    pub type C32 = Complex<f32, Hypot>;
+    /// Complex value of the sums that isdb-rs takes in `f64`.
+    pub type C64 = Complex<f64, Hypot>;
+}
+
+impl<T, N> Complex<T, N> {
     /// The pair (re, im).
     pub const fn new(re: T, im: T) -> Self {
-        Self { re, im }
+        let norm = PhantomData;
+        Self { re, im, norm }
     }
 }
 
-impl<T: Copy + Neg<Output = T>> Complex<T> {
+impl<T: Copy + Neg<Output = T>, N> Complex<T, N> {
     /// (a, −b).
     pub fn conj(self) -> Self {
         Self::new(self.re, -self.im)
     }
 }
 
-impl<T: Copy + Add<Output = T> + Mul<Output = T>> Complex<T> {
+impl<T: Copy + Add<Output = T> + Mul<Output = T>, N> Complex<T, N> {
     /// aa + bb.
     pub fn norm_sqr(self) -> T {
         self.re * self.re + self.im * self.im
     }
 }
 
-impl C32 {
+impl<T, N: Norm<T>> Complex<T, N> {
+    /// The norm.
+    #[inline]
+    pub fn norm(self) -> T {
+        N::norm(self.re, self.im)
+    }
+}
+
+impl Norm<f32> for Exact {
     /// Squares and sum in `f64`, the nearest root, then to `f32`.
     #[inline]
-    pub fn norm(self) -> f32 {
-        C64::new(f64::from(self.re), f64::from(self.im)).norm() as f32
+    fn norm(re: f32, im: f32) -> f32 {
+        C64::new(f64::from(re), f64::from(im)).norm() as f32
     }
 }
 
-impl C64 {
+impl Norm<f64> for Exact {
     /// The nearest root of the rounded sum of rounded squares.
     #[inline]
-    pub fn norm(self) -> f64 {
-        self.norm_sqr().sqrt()
+    fn norm(re: f64, im: f64) -> f64 {
+        C64::new(re, im).norm_sqr().sqrt()
     }
 }
 
-impl<T: Add<Output = T>> Add for Complex<T> {
+impl Norm<f32> for Hypot {
+    #[inline]
+    fn norm(re: f32, im: f32) -> f32 {
+        re.hypot(im)
+    }
+}
+
+impl Norm<f64> for Hypot {
+    #[inline]
+    fn norm(re: f64, im: f64) -> f64 {
+        re.hypot(im)
+    }
+}
+
+impl<T: Add<Output = T>, N> Add for Complex<T, N> {
     type Output = Self;
     fn add(self, other: Self) -> Self {
         Self::new(self.re + other.re, self.im + other.im)
     }
 }
 
-impl<T: Copy + Add<Output = T>> AddAssign for Complex<T> {
+impl<T: Copy + Add<Output = T>, N: Copy> AddAssign for Complex<T, N> {
     fn add_assign(&mut self, other: Self) {
         *self = *self + other;
     }
 }
 
-impl<T: Sub<Output = T>> Sub for Complex<T> {
+impl<T: Sub<Output = T>, N> Sub for Complex<T, N> {
     type Output = Self;
     fn sub(self, other: Self) -> Self {
         Self::new(self.re - other.re, self.im - other.im)
     }
 }
 
-impl<T> Mul for Complex<T>
+impl<T, N> Mul for Complex<T, N>
 where
     T: Copy + Mul<Output = T> + Add<Output = T> + Sub<Output = T>,
 {
@@ -91,21 +140,21 @@ where
     }
 }
 
-impl<T: Copy + Mul<Output = T>> Mul<T> for Complex<T> {
+impl<T: Copy + Mul<Output = T>, N> Mul<T> for Complex<T, N> {
     type Output = Self;
     fn mul(self, factor: T) -> Self {
         Self::new(self.re * factor, self.im * factor)
     }
 }
 
-impl<T: Copy + Div<Output = T>> Div<T> for Complex<T> {
+impl<T: Copy + Div<Output = T>, N> Div<T> for Complex<T, N> {
     type Output = Self;
     fn div(self, divisor: T) -> Self {
         Self::new(self.re / divisor, self.im / divisor)
     }
 }
 
-impl<T: Default + Add<Output = T>> Sum for Complex<T> {
+impl<T: Default + Add<Output = T>, N: Default> Sum for Complex<T, N> {
     /// From the left, starting at (+0.0, +0.0).
     fn sum<I: Iterator<Item = Self>>(iter: I) -> Self {
         iter.fold(Self::default(), |sum, x| sum + x)
@@ -132,6 +181,15 @@ mod tests {
         // The square overflows in f32 and does not in f64.
         assert_eq!(C32::new(3e38, 0.0).norm(), 3e38);
         assert_eq!(C32::new(f32::INFINITY, 1.0).norm(), f32::INFINITY);
+    }
+
+    #[test]
+    fn hypot_is_infinite_beside_a_nan() {
+        assert!(C32::new(f32::INFINITY, f32::NAN).norm().is_nan());
+        assert!(C64::new(f64::INFINITY, f64::NAN).norm().is_nan());
+        let (short, long) = (f32::INFINITY, f64::INFINITY);
+        assert_eq!(hypot::C32::new(short, f32::NAN).norm(), short);
+        assert_eq!(hypot::C64::new(long, f64::NAN).norm(), long);
     }
 
     #[test]

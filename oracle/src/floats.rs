@@ -1,5 +1,7 @@
-//! The port's functions of floats, held against the Rust's: bit for bit, all NaNs alike.
+//! The port's functions of floats, held against the Rust's: bit for bit, all NaNs alike. The norms are
+//! held against the untouched Rust's too.
 
+use crate::complex::hypot;
 use crate::ffi;
 use crate::float_inputs::{self as inputs, Class, One, Pair};
 use crate::rng::Rng;
@@ -39,6 +41,8 @@ pub struct Function<I: 'static, R> {
     pub port: fn(I) -> R,
     /// The Rust's.
     pub rust: fn(I) -> R,
+    /// The untouched Rust's, if it has another.
+    pub untouched: Option<fn(I) -> R>,
     /// Special inputs.
     pub special: Vec<I>,
     /// Classes of random inputs, which take turns.
@@ -78,6 +82,8 @@ impl<I: Copy + Ord + Display + Send + Sync, R: Value> Function<I, R> {
         let port = (self.port)(input).compared_bits();
         let found = (rust != port).then(|| format!("result: oracle {rust:#x}, port {port:#x}"));
         tally.count(false, found, || input);
+        let departs = |untouched: fn(I) -> R| untouched(input).compared_bits() != port;
+        tally.count_departure(self.untouched.map(departs));
     }
 }
 
@@ -87,6 +93,7 @@ pub fn root() -> Function<One, f64> {
         name: "root",
         port: |x| ffi::root(x.value()),
         rust: |x| x.value().sqrt(),
+        untouched: None,
         special: inputs::special_ones(),
         classes: inputs::ROOT,
     }
@@ -98,6 +105,7 @@ pub fn narrow() -> Function<One, f32> {
         name: "narrow",
         port: |x| ffi::narrow(x.value()),
         rust: |x| x.value() as f32,
+        untouched: None,
         special: inputs::special_ones(),
         classes: inputs::NARROW,
     }
@@ -109,6 +117,7 @@ pub fn norm32() -> Function<Pair<u32>, f32> {
         name: "norm32",
         port: |pair| ffi::norm32(pair.value().re, pair.value().im),
         rust: |pair| pair.value().norm(),
+        untouched: Some(|pair| hypot::C32::new(pair.value().re, pair.value().im).norm()),
         special: inputs::special_pairs_32(),
         classes: inputs::NORM_32,
     }
@@ -120,6 +129,7 @@ pub fn norm64() -> Function<Pair<u64>, f64> {
         name: "norm64",
         port: |pair| ffi::norm64(pair.value().re, pair.value().im),
         rust: |pair| pair.value().norm(),
+        untouched: Some(|pair| hypot::C64::new(pair.value().re, pair.value().im).norm()),
         special: inputs::special_pairs_64(),
         classes: inputs::NORM_64,
     }

@@ -8,7 +8,7 @@
 //! For acquisition, `acquire_answers` and `acquire_port` stand in the places of `answers` and `ffi`,
 //! `acquire_calls` makes a call and compares, `acquire_cases` says which calls, and `captures` and
 //! `samples` make what is in them. `claims` holds the port against itself, on captures that `changes`
-//! changed.
+//! changed. `untouched` answers as the Rust does whose norms are `hypot`.
 //!
 //! The grid has the same shape: `grid_answers`, `grid_port`, `grid_calls`, `grid_cases`.
 //!
@@ -18,6 +18,7 @@ pub mod acquire_answers;
 pub mod acquire_calls;
 pub mod acquire_cases;
 pub mod acquire_compare;
+pub mod acquire_found;
 pub mod acquire_port;
 pub mod answers;
 pub mod args;
@@ -48,5 +49,8 @@ pub mod stored_floats;
 pub mod stored_grid;
 pub mod tally;
 pub mod timing;
+pub mod untouched;
 
 pub use complex::C32;
+// `acquire_answers` takes it from `super`, as it takes C32.
+use isdb::rx::acquire;

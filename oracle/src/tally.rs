@@ -10,6 +10,7 @@ pub struct Tally<K> {
     cases: u64,
     refused: u64,
     differences: u64,
+    departures: Option<u64>,
     smallest: Option<(K, String)>,
 }
 
@@ -19,6 +20,7 @@ impl<K> Default for Tally<K> {
             cases: 0,
             refused: 0,
             differences: 0,
+            departures: None,
             smallest: None,
         }
     }
@@ -35,11 +37,24 @@ impl<K: Ord + Display> Tally<K> {
         }
     }
 
+    /// Counts a departure of the untouched Rust, which is no difference, or that there is none; a row
+    /// of which nothing is counted shows that it was not asked.
+    pub fn count_departure(&mut self, departs: Option<bool>) {
+        self.add_departures(departs.map(u64::from));
+    }
+
+    fn add_departures(&mut self, more: Option<u64>) {
+        if let Some(more) = more {
+            *self.departures.get_or_insert(0) += more;
+        }
+    }
+
     /// Adds what another tally counted.
     pub fn add(&mut self, other: Self) {
         self.cases += other.cases;
         self.refused += other.refused;
         self.differences += other.differences;
+        self.add_departures(other.departures);
         if let Some((input, found)) = other.smallest {
             self.keep_smaller(input, found);
         }
@@ -77,6 +92,7 @@ impl<K: Ord + Display> Tally<K> {
             cases: self.cases,
             refused: self.refused,
             differences: self.differences,
+            departures: self.departures,
             smallest: self
                 .smallest
                 .map(|(input, found)| format!("{input}\n    {found}")),
@@ -91,6 +107,7 @@ pub struct Row {
     cases: u64,
     refused: u64,
     differences: u64,
+    departures: Option<u64>,
     smallest: Option<String>,
 }
 
@@ -105,22 +122,35 @@ impl Row {
         self.differences
     }
 
+    /// In how many of them the untouched Rust departs; none where it was not asked.
+    pub fn departures(&self) -> Option<u64> {
+        self.departures
+    }
+
     /// The smallest failing input and what was found.
     pub fn smallest(&self) -> Option<&str> {
         self.smallest.as_deref()
     }
 }
 
+/// Why there is no number of departures.
+const NOT_ASKED: &str = "not asked. Where no norm is taken, the untouched Rust is the oracle itself; \
+                         changed captures hold the port against itself.";
+
 /// Prints the table and the smallest failing inputs. Gives the number of differences.
 pub fn print_table(rows: &[Row]) -> u64 {
-    println!("| operation | cases | refused | differences |");
-    println!("|---|---:|---:|---:|");
+    println!("| operation | cases | refused | differences | departures of the untouched Rust |");
+    println!("|---|---:|---:|---:|---:|");
     for row in rows {
         let (name, cases) = (&row.name, row.cases);
+        let departures = row.departures.map_or("-".into(), |count| count.to_string());
         println!(
-            "| {name} | {cases} | {} | {} |",
+            "| {name} | {cases} | {} | {} | {departures} |",
             row.refused, row.differences
         );
+    }
+    if rows.iter().any(|row| row.departures.is_none()) {
+        println!("\n-: {NOT_ASKED}");
     }
     for row in rows {
         if let Some(smallest) = &row.smallest {
@@ -168,6 +198,22 @@ mod tests {
         }
         assert_eq!((tally.cases, tally.differences), (4, 3));
         assert_eq!(tally.smallest, Some((3, "bad 3".to_string())));
+    }
+
+    #[test]
+    fn departures_are_no_differences() {
+        let mut asked = Tally::<u8>::default();
+        for departs in [true, false, true] {
+            asked.count(false, None, || 0);
+            asked.count_departure(Some(departs));
+        }
+        let mut other = Tally::default();
+        other.count(false, None, || 0);
+        other.count_departure(None);
+        assert_eq!(other.departures, None);
+        let row = Tally::sum([asked, other]).row("sum");
+        assert_eq!((row.cases(), row.differences()), (4, 0));
+        assert_eq!((row.departures(), row.smallest()), (Some(2), None));
     }
 
     #[test]

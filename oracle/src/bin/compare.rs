@@ -1,6 +1,7 @@
 //! Holds the proved port against the Rust: every layout, every bin, every refusal at its boundary,
 //! random calls, the functions of floats, acquisition, the grid, and the program `segments`. Of
-//! acquisition it also holds the port against itself, on changed captures.
+//! acquisition it also holds the port against itself, on changed captures. Where a norm is taken it
+//! counts the departures of the untouched Rust.
 
 use oracle::acquire_compare::{self, Plan};
 use oracle::acquire_port;
@@ -12,12 +13,11 @@ use oracle::claims::{self, Provisos};
 use oracle::codes::{KINDS, MODES, PHASES, kind_bytes, kinds_of_choice};
 use oracle::floats;
 use oracle::isdb::frame::FrameLayout;
-use oracle::isdb::params::{Mode, SEGMENTS};
+use oracle::isdb::params::Mode;
 use oracle::rng::Rng;
 use oracle::segment_list::{damaged_line, every_question, random_question};
 use oracle::segments_program;
 use oracle::tally::{Row, Tally, on_all_processors, print_table};
-use std::collections::BTreeSet;
 use std::io;
 use std::process::ExitCode;
 use std::time::Instant;
@@ -25,24 +25,22 @@ use std::time::Instant;
 const USAGE: &str = "\
 compare: hold the proved port against the Rust
 
-  --quick     a seeded sample of the layouts in place of all 98,304, and fewer random floats;
-              everything else the same
-  --seed N    seed of the sample, the random calls, the random floats and the damaged lines
-              (default 1)
+  --quick     fewer random floats and captures; everything else the same
+  --seed N    seed of the random calls, the random floats and the damaged lines (default 1)
   --cases N   random calls of each operation (default 4096)
   --floats N  random inputs of each function of floats (default 100,000,000; with --quick
               15,000,000)
   --captures N
               random calls of each operation of acquisition and of the grid, and changed
-              captures of each operation of acquisition (default 20,000; with --quick 400)
+              captures of each operation of acquisition (default 20,000; with --quick 4,000)
   --only PART nothing but one part: layouts, floats, acquisition, grid or segments
   --help      this text
 
 Environment: SILLURWY_SEGMENTS is the path of the program segments.
-Exit status: 0 no difference; 1 a difference; 2 bad usage, or the program could not be run.";
+Exit status: 0 no difference; 1 a difference; 2 bad usage, or the program could not be run. A
+departure of the untouched Rust, whose norms are hypot, is no difference.";
 
 struct Options {
-    quick: bool,
     seed: u64,
     cases: u64,
     floats: u64,
@@ -56,17 +54,16 @@ const PARTS: [&str; 5] = ["layouts", "floats", "acquisition", "grid", "segments"
 fn options() -> Options {
     let mut args = Args::new(USAGE);
     let mut options = Options {
-        quick: false,
         seed: 1,
         cases: 4096,
-        floats: 0,
-        captures: 0,
+        floats: FLOATS,
+        captures: CAPTURES,
         only: None,
     };
     let (mut floats, mut captures) = (None, None);
     while let Some(word) = args.next_word() {
         match word.as_str() {
-            "--quick" => options.quick = true,
+            "--quick" => (options.floats, options.captures) = (QUICK_FLOATS, QUICK_CAPTURES),
             "--seed" => options.seed = args.number("--seed"),
             "--cases" => options.cases = args.number("--cases"),
             "--floats" => floats = Some(args.number("--floats")),
@@ -75,14 +72,8 @@ fn options() -> Options {
             _ => args.fail(format!("unknown word {word}")),
         }
     }
-    let usual = if options.quick { QUICK_FLOATS } else { FLOATS };
-    options.floats = floats.unwrap_or(usual);
-    let usual = if options.quick {
-        QUICK_CAPTURES
-    } else {
-        CAPTURES
-    };
-    options.captures = captures.unwrap_or(usual);
+    options.floats = floats.unwrap_or(options.floats);
+    options.captures = captures.unwrap_or(options.captures);
     options
 }
 
@@ -128,7 +119,6 @@ impl Options {
 
 /// Streams of random numbers, one for each use.
 mod stream {
-    pub const SAMPLE: u64 = 1;
     pub const CALLS: u64 = 100;
     pub const LINES: u64 = 200;
     pub const INPUTS: u64 = 300;
@@ -138,8 +128,6 @@ mod stream {
     pub const GRID: u64 = 800;
 }
 
-/// Kinds in a sample, for each mode.
-const SAMPLE: usize = 1024;
 /// Damaged lines besides those that `--cases` asks for.
 const DAMAGED_LINES: u64 = 4096;
 /// Random inputs of each function of floats, unless `--floats` is given.
@@ -149,7 +137,7 @@ const QUICK_FLOATS: u64 = 15_000_000;
 /// Random calls of each operation of acquisition and of the grid, unless `--captures` is given.
 const CAPTURES: usize = 20_000;
 /// The same with `--quick`.
-const QUICK_CAPTURES: usize = 400;
+const QUICK_CAPTURES: usize = 4000;
 /// Kinds in a job of one thread.
 const JOB: usize = 32;
 
@@ -217,22 +205,8 @@ impl Layouts {
     }
 }
 
-/// The choices of kinds to compare in a mode: all, or a sample that holds the plain ones.
-fn choices(mode: Mode, options: &Options) -> Vec<u16> {
-    if !options.quick {
-        return (0..KINDS).collect();
-    }
-    let mut rng = Rng::for_case(options.seed, stream::SAMPLE, u64::from(mode.number()));
-    let mut sample: BTreeSet<u16> = (0..SEGMENTS).map(|segment| 1 << segment).collect();
-    sample.extend([0, KINDS - 1]);
-    while sample.len() < SAMPLE {
-        sample.insert(rng.choice());
-    }
-    sample.into_iter().collect()
-}
-
-fn compare_layouts(options: &Options) -> Vec<Row> {
-    let in_mode = |mode| choices(mode, options).into_iter().map(move |c| (mode, c));
+fn compare_layouts() -> Vec<Row> {
+    let in_mode = |mode| (0..KINDS).map(move |choice| (mode, choice));
     let all: Vec<(Mode, u16)> = MODES.into_iter().flat_map(in_mode).collect();
     let jobs: Vec<&[(Mode, u16)]> = all.chunks(JOB).collect();
     let parts = on_all_processors(jobs.len(), |job| {
@@ -249,18 +223,11 @@ fn compare_layouts(options: &Options) -> Vec<Row> {
         total.continual.add(part.continual);
         total.one_short.add(part.one_short);
     }
-    let which = if options.quick {
-        "a sample"
-    } else {
-        "every one"
-    };
     vec![
-        total.roles.row(format!("role map, {which}")),
-        total.data.row(format!("data list, {which}")),
-        total.continual.row(format!("continual list, {which}")),
-        total
-            .one_short
-            .row(format!("continual list, {which}, one short")),
+        total.roles.row("role map, every one"),
+        total.data.row("data list, every one"),
+        total.continual.row("continual list, every one"),
+        total.one_short.row("continual list, every one, one short"),
     ]
 }
 
@@ -274,6 +241,7 @@ fn compare_calls(count: usize, call: impl Fn(usize) -> Call + Sync) -> Tally<Cal
             let Outcome {
                 refused,
                 difference,
+                ..
             } = call.run(index as u64);
             tally.count(refused, difference, || call);
         }
@@ -433,7 +401,7 @@ fn compare_all_layouts(options: &Options) -> Vec<Row> {
         compare_list(&every_bin()).row("bin lookup, every one"),
         compare_list(&every_sign_map()).row("sign map, every one"),
     ];
-    rows.extend(compare_layouts(options));
+    rows.extend(compare_layouts());
     rows.extend(compare_boundaries());
     rows.extend(compare_random(options));
     rows

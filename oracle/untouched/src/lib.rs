@@ -6,12 +6,7 @@
 //! `input_kind` says of what kind an input is, `by_hand` has calls with few floats that are not zero,
 //! and `norms` compares the norms alone.
 
-pub use num_complex::Complex32 as C32;
-
-/// What the source file of `acquire` asks for under this path.
-pub mod complex {
-    pub use num_complex::Complex64 as C64;
-}
+pub use num_complex::{Complex32 as C32, Complex64 as C64};
 
 /// The modules of isdb-rs that have no complex numbers but the pilots' values, of which `acquire` and
 /// `chanest` take the real part.

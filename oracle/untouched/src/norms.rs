@@ -157,7 +157,7 @@ impl Norm for f64 {
     }
 
     fn hypot(re: Self, im: Self) -> Self {
-        crate::complex::C64::new(re, im).norm()
+        crate::C64::new(re, im).norm()
     }
 
     fn any(rng: &mut Rng) -> Self {

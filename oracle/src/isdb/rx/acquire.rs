@@ -9,8 +9,7 @@
 //! frame synchronisation.  ISDB-T specific positions come from
 //! [`crate::frame`] (Tables 3-14/3-15) and [`crate::tmcc`] (Table 3-20).
 
-use crate::C32;
-use crate::complex::C64;
+use super::{C32, C64};
 use crate::isdb::frame::{FrameLayout, SegmentKind, ac1_positions, ac2_positions, tmcc_positions};
 use crate::isdb::ofdm::carrier_bin;
 use crate::isdb::ofdm_params::segment_position;

@@ -1,10 +1,12 @@
 // Carried over from isdb-rs 754ed06c49 (Apache-2.0, see NOTICE).
-// From crates/isdbt-ofdm/src/rx/mod.rs. Changed: `continual_list` is public. Left out: everything
-// else of that file but the lines of `acquire` and `chanest`.
+// From crates/isdbt-ofdm/src/rx/mod.rs. Changed: `continual_list` is public; `acquire` finds its
+// complex numbers here. Left out: everything else of that file but the lines of `acquire` and
+// `chanest`.
 
 pub mod acquire;
 pub mod chanest;
 
+use crate::complex::{C32, C64};
 use crate::isdb::frame::FrameLayout;
 
 /// Continual carriers of a layout: TMCC, AC, differential CPs, band edge.
