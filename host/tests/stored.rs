@@ -3,7 +3,8 @@
 use sillurwy::params::{kinds_from_codes, GuardInterval, Kinds, Mode, Phase, SegmentKind};
 use sillurwy::pilot_phase::PilotPhase;
 use sillurwy::{
-    carrier_lists, complex, frame, guess, ieee, ofdm, pilot_phase, prbs, segment_kinds, shift, tmcc,
+    carrier_lists, complex, frame, guess, ieee, ofdm, pilot_grid, pilot_phase, prbs, segment_kinds,
+    shift, tmcc,
 };
 use std::fs;
 use std::path::Path;
@@ -102,6 +103,8 @@ struct Call {
     operation: u8,
     mode: Mode,
     filter: Option<SegmentKind>,
+    phase: Phase,
+    w: u8,
     kinds: Kinds,
     modes: Vec<Mode>,
     guards: Vec<GuardInterval>,
@@ -121,9 +124,9 @@ fn call(stored: &mut Stored) -> Option<Call> {
     let code = stored.byte();
     let (first, second) = (stored.take(first), stored.take(second));
     let floats = stored.take(floats);
-    let search = operation >= 5;
+    let (search, grid) = (operation == 5 || operation == 6, operation == 7);
     let kinds = match operation {
-        3 | 4 => kinds_from_codes(&first),
+        3 | 4 | 7 => kinds_from_codes(&first),
         _ => Ok([SegmentKind::Coherent; 13]),
     };
     let modes: Result<Vec<Mode>, _> = first.iter().map(|&m| Mode::from_number(m)).collect();
@@ -131,13 +134,19 @@ fn call(stored: &mut Stored) -> Option<Call> {
     let call = Call {
         operation,
         mode: Mode::from_number(if search { 1 } else { mode }).ok()?,
+        phase: Phase::from_number(if grid { filter } else { 0 }).ok()?,
+        w: second.first().copied().unwrap_or(0),
         filter: match filter {
             2 => None,
+            _ if grid => None,
             code => Some(SegmentKind::from_code(code).ok()?),
         },
         kinds: kinds.ok()?,
         modes: if search { modes.ok()? } else { Vec::new() },
-        guards: guards.collect::<Result<_, _>>().ok()?,
+        guards: match grid {
+            true => Vec::new(),
+            false => guards.collect::<Result<_, _>>().ok()?,
+        },
         floats: floats.iter().map(|&b| f32::from(b) - 128.0).collect(),
         number,
         lent,
@@ -196,6 +205,22 @@ fn hold(call: &Call, stored: &mut Stored) {
         }
         6 => guess::samples_needed(&call.modes, &call.guards, call.number)
             .map(|samples| assert_eq!(stored.size(4), samples)),
+        7 => {
+            let mut grid = vec![7.0; call.lent];
+            let w = usize::from(call.w);
+            let (phase, index) = (call.phase, call.number);
+            let found = pilot_grid::estimate_grid_lent(
+                mode,
+                phase,
+                &call.kinds,
+                floats,
+                index,
+                w,
+                &mut grid,
+            );
+            assert!(found.is_ok() || grid.iter().all(|&x| x == 7.0));
+            found.map(|()| stored.hold_f32(&grid))
+        }
         operation => panic!("operation {operation} is not known"),
     };
     let code = refusal.err().map_or(0, |refusal| refusal.number());
@@ -208,7 +233,7 @@ fn hold(call: &Call, stored: &mut Stored) {
 #[test]
 fn acquisition() {
     let mut stored = Stored::open("crates/replay_acquire/stdin");
-    let mut held = [0; 7];
+    let mut held = [0; 8];
     while stored.more() {
         if let Some(call) = call(&mut stored) {
             hold(&call, &mut stored);

@@ -27,6 +27,7 @@ enum function {
     DETECT_KINDS,
     TMCC_SOFT,
     DETECT_SP_PHASE,
+    ESTIMATE_GRID,
     ROOT,
     NARROW,
     NORM32,
@@ -37,7 +38,7 @@ enum function {
 static const char *const names[FUNCTIONS] = {
     "carrier_bin",  "role_map",     "sign_map",  "data_list",       "continual_list",
     "samples_needed", "detect_mode", "integer_cfo", "detect_kinds", "tmcc_soft",
-    "detect_sp_phase", "root",      "narrow",    "norm32",          "norm64",
+    "detect_sp_phase", "estimate_grid", "root",      "narrow",    "norm32",          "norm64",
 };
 
 static unsigned long calls[FUNCTIONS];
@@ -493,6 +494,30 @@ static void samples_needed(struct reader *in, const struct call *call)
     count(SAMPLES_NEEDED, good);
 }
 
+/* The filter is the phase, the number is the index, the second list is w. What the grid holds before
+ * the call is 7 everywhere. */
+static void estimate_grid(struct reader *in, const struct call *call)
+{
+    float *grid = room(call->lent, sizeof *grid);
+    for (size_t i = 0; i < call->lent; i++) {
+        grid[i] = 7;
+    }
+    size_t w = call->second_len > 0 ? call->second[0] : 0;
+    uint8_t code = sillurwy_estimate_grid(call->mode, call->filter, call->first, call->first_len,
+                                          call->floats, call->len, call->number, w, grid,
+                                          call->lent);
+    bool good = code == call->code;
+    if (call->code == 0) {
+        answer_of(in, ESTIMATE_GRID);
+        good &= are_f32(in, grid, call->lent);
+    }
+    for (size_t i = 0; call->code != 0 && i < call->lent; i++) {
+        good &= f32_bits(grid[i]) == f32_bits(7);
+    }
+    count(ESTIMATE_GRID, good);
+    free(grid);
+}
+
 static void replay_acquire(struct reader *in)
 {
     while (in->at < in->size) {
@@ -520,6 +545,7 @@ static void replay_acquire(struct reader *in)
         case 4: detect_sp_phase(in, &call); break;
         case 5: detect_mode(in, &call); break;
         case 6: samples_needed(in, &call); break;
+        case 7: estimate_grid(in, &call); break;
         default: fail("has an operation that is not known", in->name);
         }
         free(call.floats);
