@@ -31,14 +31,14 @@ enum sillurwy_refusal {
     SILLURWY_BAD_PHASE = 3,   /* a phase above 3 */
     SILLURWY_BAD_FILTER = 3,  /* a filter of the soft TMCC value above 2 */
     SILLURWY_BAD_CARRIER = 4, /* a carrier at or above k_total */
-    SILLURWY_BAD_INDEX = 4,   /* an index outside of the spectra */
+    SILLURWY_BAD_INDEX = 4,   /* an index of no spectrum */
     SILLURWY_BAD_FLOATS = 5,  /* floats that are not whole spectra or samples, or too many */
     SILLURWY_NO_SPECTRA = 6,  /* no spectra */
     SILLURWY_BAD_LENGTH = 7,  /* an output of the wrong length, or too short a scratch */
     SILLURWY_BAD_BOUND = 8,   /* a bound above n/2 */
     SILLURWY_BAD_GUARD = 9,   /* a guard other than 4, 8, 16, 32 */
-    SILLURWY_BAD_SYMBOLS = 10, /* more than 64 symbols */
-    SILLURWY_BAD_WINDOW = 10  /* a time window above 64 */
+    SILLURWY_BAD_WINDOW = 10, /* a time window above 64 */
+    SILLURWY_BAD_SYMBOLS = 10 /* more than 64 symbols */
 };
 
 /* ---- Codes ---- */
@@ -208,12 +208,15 @@ uint8_t sillurwy_detect_sp_phase(uint8_t mode, const uint8_t *kinds, size_t kind
                                  uint8_t *phase, float *share, uint32_t counts[SILLURWY_PHASES],
                                  uint32_t *lead);
 
-/* The pilot grid of a spectrum: the channel at every third carrier, from the scattered pilots of the
- * spectra around it.
+/* ---- The channel. Floats are real and imaginary part in turn. ---- */
+
+/* The pilot grid of a spectrum: the channel at every third carrier, from the pilots of the spectra
+ * around it.
  *   phase    of the scattered pilots in the current spectrum, 0 to 3
  *   kinds    thirteen, by segment number
- *   spectra  consecutive, 1 to SILLURWY_MOST_SPECTRA, each of k_total pairs by carrier
- *   index    the current one, from 0
+ *   spectra  consecutive, one behind another, 1 to SILLURWY_MOST_SPECTRA, each of k_total pairs by
+ *            carrier: 2 x SILLURWY_TOTAL_CARRIERS(mode) floats
+ *   index    of the current one, from 0
  *   w        the time window, at most SILLURWY_MOST_WINDOW; 0 counts as 1
  *   grid     SILLURWY_GRID_LENGTH(mode) floats. Points that are not estimated keep their contents
  * Refused: 1 bad mode; 2 bad kinds; 3 bad phase; 5 not whole spectra, or too many; 6 none; 4 an index

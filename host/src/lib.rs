@@ -14,7 +14,7 @@
 //! | [`segment_kinds`] | [`detect_kinds`](segment_kinds::detect_kinds) |
 //! | [`tmcc`] | [`tmcc_soft`](tmcc::tmcc_soft) |
 //! | [`pilot_phase`] | [`detect_sp_phase`](pilot_phase::detect_sp_phase) |
-//! | [`pilot_grid`] | [`estimate_grid`](pilot_grid::estimate_grid) |
+//! | [`chanest`] | [`estimate_grid`](chanest::estimate_grid) |
 //! | [`ieee`] | [`root`](ieee::root), [`narrow`](ieee::narrow) |
 //! | [`complex`] | [`norm32`](complex::norm32), [`norm64`](complex::norm64) |
 //!
@@ -40,6 +40,7 @@
 #![deny(unsafe_op_in_unsafe_fn)]
 
 pub mod carrier_lists;
+pub mod chanest;
 pub mod complex;
 mod ffi;
 pub mod frame;
@@ -47,7 +48,6 @@ pub mod guess;
 pub mod ieee;
 pub mod ofdm;
 pub mod params;
-pub mod pilot_grid;
 pub mod pilot_phase;
 pub mod prbs;
 mod refusal;

@@ -27,7 +27,7 @@ pub enum Refusal {
     BadPhase,
     /// 4: a carrier at or above k_total.
     BadCarrier,
-    /// 4 as well: an index outside of the spectra.
+    /// 4 as well: an index of no spectrum.
     BadIndex,
     /// 5: floats that are not whole spectra or samples, or too many of them.
     BadFloats,
@@ -88,7 +88,7 @@ impl Refusal {
             Refusal::BadKinds => "not thirteen kinds of 0 or 1",
             Refusal::BadPhase => "a phase above 3",
             Refusal::BadCarrier => "a carrier at or above k_total",
-            Refusal::BadIndex => "an index outside of the spectra",
+            Refusal::BadIndex => "an index of no spectrum",
             Refusal::BadFloats => "floats that are not whole spectra or samples, or too many",
             Refusal::NoSpectra => "no spectra",
             Refusal::BadLength => "an output of the wrong length, or too short a scratch",

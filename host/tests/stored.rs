@@ -3,7 +3,7 @@
 use sillurwy::params::{kinds_from_codes, GuardInterval, Kinds, Mode, Phase, SegmentKind};
 use sillurwy::pilot_phase::PilotPhase;
 use sillurwy::{
-    carrier_lists, complex, frame, guess, ieee, ofdm, pilot_grid, pilot_phase, prbs, segment_kinds,
+    carrier_lists, chanest, complex, frame, guess, ieee, ofdm, pilot_phase, prbs, segment_kinds,
     shift, tmcc,
 };
 use std::fs;
@@ -103,8 +103,6 @@ struct Call {
     operation: u8,
     mode: Mode,
     filter: Option<SegmentKind>,
-    phase: Phase,
-    w: u8,
     kinds: Kinds,
     modes: Vec<Mode>,
     guards: Vec<GuardInterval>,
@@ -124,9 +122,9 @@ fn call(stored: &mut Stored) -> Option<Call> {
     let code = stored.byte();
     let (first, second) = (stored.take(first), stored.take(second));
     let floats = stored.take(floats);
-    let (search, grid) = (operation == 5 || operation == 6, operation == 7);
+    let search = operation >= 5;
     let kinds = match operation {
-        3 | 4 | 7 => kinds_from_codes(&first),
+        3 | 4 => kinds_from_codes(&first),
         _ => Ok([SegmentKind::Coherent; 13]),
     };
     let modes: Result<Vec<Mode>, _> = first.iter().map(|&m| Mode::from_number(m)).collect();
@@ -134,19 +132,13 @@ fn call(stored: &mut Stored) -> Option<Call> {
     let call = Call {
         operation,
         mode: Mode::from_number(if search { 1 } else { mode }).ok()?,
-        phase: Phase::from_number(if grid { filter } else { 0 }).ok()?,
-        w: second.first().copied().unwrap_or(0),
         filter: match filter {
             2 => None,
-            _ if grid => None,
             code => Some(SegmentKind::from_code(code).ok()?),
         },
         kinds: kinds.ok()?,
         modes: if search { modes.ok()? } else { Vec::new() },
-        guards: match grid {
-            true => Vec::new(),
-            false => guards.collect::<Result<_, _>>().ok()?,
-        },
+        guards: guards.collect::<Result<_, _>>().ok()?,
         floats: floats.iter().map(|&b| f32::from(b) - 128.0).collect(),
         number,
         lent,
@@ -205,22 +197,6 @@ fn hold(call: &Call, stored: &mut Stored) {
         }
         6 => guess::samples_needed(&call.modes, &call.guards, call.number)
             .map(|samples| assert_eq!(stored.size(4), samples)),
-        7 => {
-            let mut grid = vec![7.0; call.lent];
-            let w = usize::from(call.w);
-            let (phase, index) = (call.phase, call.number);
-            let found = pilot_grid::estimate_grid_lent(
-                mode,
-                phase,
-                &call.kinds,
-                floats,
-                index,
-                w,
-                &mut grid,
-            );
-            assert!(found.is_ok() || grid.iter().all(|&x| x == 7.0));
-            found.map(|()| stored.hold_f32(&grid))
-        }
         operation => panic!("operation {operation} is not known"),
     };
     let code = refusal.err().map_or(0, |refusal| refusal.number());
@@ -233,7 +209,7 @@ fn hold(call: &Call, stored: &mut Stored) {
 #[test]
 fn acquisition() {
     let mut stored = Stored::open("crates/replay_acquire/stdin");
-    let mut held = [0; 8];
+    let mut held = [0; 7];
     while stored.more() {
         if let Some(call) = call(&mut stored) {
             hold(&call, &mut stored);
@@ -241,6 +217,59 @@ fn acquisition() {
         }
     }
     assert!(held[1..].iter().all(|&calls| calls >= 5), "{held:?}");
+}
+
+/// A stored call of the grid whose codes are good.
+struct GridCall {
+    mode: Mode,
+    phase: Phase,
+    kinds: Kinds,
+    floats: Vec<f32>,
+    index: usize,
+    w: usize,
+    lent: usize,
+    code: u8,
+}
+
+/// The next call of the grid; none where mode, phase or kinds are bad, which the types rule out.
+fn grid_call(stored: &mut Stored) -> Option<GridCall> {
+    let (mode, phase, kinds) = (stored.byte(), stored.byte(), stored.size(1));
+    let (floats, index, w) = (stored.size(2), stored.size(2), stored.size(2));
+    let (lent, code) = (stored.size(2), stored.byte());
+    let (kinds, floats) = (stored.take(kinds), stored.take(floats));
+    Some(GridCall {
+        mode: Mode::from_number(mode).ok()?,
+        phase: Phase::from_number(phase).ok()?,
+        kinds: kinds_from_codes(&kinds).ok()?,
+        floats: floats.iter().map(|&b| f32::from(b) - 128.0).collect(),
+        index,
+        w,
+        lent,
+        code,
+    })
+}
+
+#[test]
+fn grid() {
+    let mut stored = Stored::open("crates/replay_grid/stdin");
+    let mut held = [0; 2];
+    while stored.more() {
+        let Some(call) = grid_call(&mut stored) else {
+            continue;
+        };
+        let mut grid = vec![7.0; call.lent];
+        let (mode, phase, kinds) = (call.mode, call.phase, &call.kinds);
+        let (index, w) = (call.index, call.w);
+        let found =
+            chanest::estimate_grid_lent(mode, phase, kinds, &call.floats, index, w, &mut grid);
+        assert_eq!(found.err().map_or(0, |refusal| refusal.number()), call.code);
+        match found {
+            Ok(()) => stored.hold_f32(&grid),
+            Err(_) => assert!(grid.iter().all(|&point| point == 7.0)),
+        }
+        held[usize::from(found.is_err())] += 1;
+    }
+    assert_eq!(held, [14, 5]);
 }
 
 #[test]

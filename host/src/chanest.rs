@@ -1,4 +1,4 @@
-//! The pilot grid.
+//! The channel, from the pilots.
 
 use crate::ffi;
 use crate::params::{kind_codes, Kinds, Mode, Phase};
@@ -24,7 +24,7 @@ pub fn grid_length(mode: Mode) -> usize {
 ///
 /// ```
 /// use sillurwy::params::{Mode, Phase, SegmentKind};
-/// use sillurwy::pilot_grid::estimate_grid;
+/// use sillurwy::chanest::estimate_grid;
 /// use sillurwy::Refusal;
 ///
 /// let kinds = [SegmentKind::Differential; 13];
@@ -56,7 +56,7 @@ pub fn estimate_grid(
 ///
 /// ```
 /// use sillurwy::params::{Mode, Phase, SegmentKind};
-/// use sillurwy::pilot_grid::{estimate_grid_lent, grid_length};
+/// use sillurwy::chanest::{estimate_grid_lent, grid_length};
 ///
 /// let kinds = [SegmentKind::Differential; 13];
 /// let mut grid = vec![7.0; grid_length(Mode::M1)];
