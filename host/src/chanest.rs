@@ -12,8 +12,8 @@ pub fn grid_length(mode: Mode) -> usize {
     2 * (mode.total_carriers() / 3 + 2)
 }
 
-/// The pilot grid of one spectrum: the channel at every third carrier, in pairs, from the scattered
-/// pilots of the spectra around it. Points that are not estimated are zeros.
+/// The pilot grid of one spectrum: the channel at every third carrier, in pairs, from the pilots of the
+/// spectra around it. Points that are not estimated are zeros.
 ///
 /// The spectra are consecutive, each of k_total pairs by carrier; `index` is the current one, `phase`
 /// its phase, `w` the time window.
@@ -23,8 +23,8 @@ pub fn grid_length(mode: Mode) -> usize {
 /// [`BadIndex`](Refusal::BadIndex); [`BadWindow`](Refusal::BadWindow) above [`MOST_WINDOW`].
 ///
 /// ```
-/// use sillurwy::params::{Mode, Phase, SegmentKind};
 /// use sillurwy::chanest::estimate_grid;
+/// use sillurwy::params::{Mode, Phase, SegmentKind};
 /// use sillurwy::Refusal;
 ///
 /// let kinds = [SegmentKind::Differential; 13];
@@ -55,8 +55,8 @@ pub fn estimate_grid(
 /// Refused: as above; last, [`BadLength`](Refusal::BadLength) for a slice of another length.
 ///
 /// ```
-/// use sillurwy::params::{Mode, Phase, SegmentKind};
 /// use sillurwy::chanest::{estimate_grid_lent, grid_length};
+/// use sillurwy::params::{Mode, Phase, SegmentKind};
 ///
 /// let kinds = [SegmentKind::Differential; 13];
 /// let mut grid = vec![7.0; grid_length(Mode::M1)];
