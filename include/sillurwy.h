@@ -31,11 +31,13 @@ enum sillurwy_refusal {
     SILLURWY_BAD_PHASE = 3,   /* a phase above 3 */
     SILLURWY_BAD_FILTER = 3,  /* a filter of the soft TMCC value above 2 */
     SILLURWY_BAD_CARRIER = 4, /* a carrier at or above k_total */
+    SILLURWY_BAD_INDEX = 4,   /* an index of no spectrum */
     SILLURWY_BAD_FLOATS = 5,  /* floats that are not whole spectra or samples, or too many */
     SILLURWY_NO_SPECTRA = 6,  /* no spectra */
     SILLURWY_BAD_LENGTH = 7,  /* an output of the wrong length, or too short a scratch */
     SILLURWY_BAD_BOUND = 8,   /* a bound above n/2 */
     SILLURWY_BAD_GUARD = 9,   /* a guard other than 4, 8, 16, 32 */
+    SILLURWY_BAD_WINDOW = 10, /* a time window above 64 */
     SILLURWY_BAD_SYMBOLS = 10 /* more than 64 symbols */
 };
 
@@ -86,12 +88,15 @@ enum sillurwy_filter {
     (SILLURWY_SEGMENTS * SILLURWY_DATA_CARRIERS_PER_SEGMENT(mode))
 /* the most numbers that the continual list has, whatever the kinds */
 #define SILLURWY_CONTINUAL_LIST_MOST(mode) SILLURWY_BY_MODE(mode, 157ul, 313ul, 625ul)
+/* the floats of the grid, k_total/3 + 2 pairs */
+#define SILLURWY_GRID_LENGTH(mode) SILLURWY_BY_MODE(mode, 940ul, 1876ul, 3748ul)
 /* the least entries of scratch for a number of pairs of samples */
 #define SILLURWY_SCRATCH_LENGTH(pairs) (3ul * ((pairs) + 1ul))
 
 #define SILLURWY_MOST_SPECTRA 1024ul
 #define SILLURWY_MOST_SAMPLES 1048576ul /* pairs */
 #define SILLURWY_MOST_SYMBOLS 64ul
+#define SILLURWY_MOST_WINDOW 64ul
 
 /* ---- Layout ---- */
 
@@ -202,6 +207,23 @@ uint8_t sillurwy_detect_sp_phase(uint8_t mode, const uint8_t *kinds, size_t kind
                                  const float *spectra, size_t spectra_len, uint8_t *found,
                                  uint8_t *phase, float *share, uint32_t counts[SILLURWY_PHASES],
                                  uint32_t *lead);
+
+/* ---- The channel. Floats are real and imaginary part in turn. ---- */
+
+/* The pilot grid of a spectrum: the channel at every third carrier, from the pilots of the spectra
+ * around it.
+ *   phase    of the scattered pilots in the current spectrum, 0 to 3
+ *   kinds    thirteen, by segment number
+ *   spectra  consecutive, one behind another, 1 to SILLURWY_MOST_SPECTRA, each of k_total pairs by
+ *            carrier: 2 x SILLURWY_TOTAL_CARRIERS(mode) floats
+ *   index    of the current one, from 0
+ *   w        the time window, at most SILLURWY_MOST_WINDOW; 0 counts as 1
+ *   grid     SILLURWY_GRID_LENGTH(mode) floats. Points that are not estimated keep their contents
+ * Refused: 1 bad mode; 2 bad kinds; 3 bad phase; 5 not whole spectra, or too many; 6 none; 4 an index
+ * outside; 10 w above 64; 7 a grid of another length. */
+uint8_t sillurwy_estimate_grid(uint8_t mode, uint8_t phase, const uint8_t *kinds,
+                               size_t kinds_len, const float *spectra, size_t spectra_len,
+                               size_t index, size_t w, float *grid, size_t grid_len);
 
 /* ---- Floats. They refuse nothing and return their value; of NaNs, any may be given. ---- */
 

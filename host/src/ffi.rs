@@ -98,6 +98,18 @@ extern "C" {
         counts: *mut [u32; 4],
         lead: *mut u32,
     ) -> u8;
+    pub fn sillurwy_estimate_grid(
+        mode: u8,
+        phase: u8,
+        kinds: *const u8,
+        kinds_len: usize,
+        spectra: *const f32,
+        spectra_len: usize,
+        index: usize,
+        w: usize,
+        grid: *mut f32,
+        grid_len: usize,
+    ) -> u8;
     pub fn sillurwy_root(x: f64) -> f64;
     pub fn sillurwy_narrow(x: f64) -> f32;
     pub fn sillurwy_norm32(re: f32, im: f32) -> f32;

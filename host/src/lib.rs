@@ -14,6 +14,7 @@
 //! | [`segment_kinds`] | [`detect_kinds`](segment_kinds::detect_kinds) |
 //! | [`tmcc`] | [`tmcc_soft`](tmcc::tmcc_soft) |
 //! | [`pilot_phase`] | [`detect_sp_phase`](pilot_phase::detect_sp_phase) |
+//! | [`chanest`] | [`estimate_grid`](chanest::estimate_grid) |
 //! | [`ieee`] | [`root`](ieee::root), [`narrow`](ieee::narrow) |
 //! | [`complex`] | [`norm32`](complex::norm32), [`norm64`](complex::norm64) |
 //!
@@ -39,6 +40,7 @@
 #![deny(unsafe_op_in_unsafe_fn)]
 
 pub mod carrier_lists;
+pub mod chanest;
 pub mod complex;
 mod ffi;
 pub mod frame;

@@ -27,6 +27,8 @@ pub enum Refusal {
     BadPhase,
     /// 4: a carrier at or above k_total.
     BadCarrier,
+    /// 4 as well: an index of no spectrum.
+    BadIndex,
     /// 5: floats that are not whole spectra or samples, or too many of them.
     BadFloats,
     /// 6: no spectra.
@@ -39,10 +41,12 @@ pub enum Refusal {
     BadGuard,
     /// 10: more than 64 symbols.
     BadSymbols,
+    /// 10 as well: a time window above 64.
+    BadWindow,
 }
 
 impl Refusal {
-    /// Every refusal, by number from 1 on.
+    /// A refusal of each number, from 1 on.
     const ALL: [Refusal; 10] = [
         Refusal::BadMode,
         Refusal::BadKinds,
@@ -62,17 +66,17 @@ impl Refusal {
             Refusal::BadMode => 1,
             Refusal::BadKinds => 2,
             Refusal::BadPhase => 3,
-            Refusal::BadCarrier => 4,
+            Refusal::BadCarrier | Refusal::BadIndex => 4,
             Refusal::BadFloats => 5,
             Refusal::NoSpectra => 6,
             Refusal::BadLength => 7,
             Refusal::BadBound => 8,
             Refusal::BadGuard => 9,
-            Refusal::BadSymbols => 10,
+            Refusal::BadSymbols | Refusal::BadWindow => 10,
         }
     }
 
-    /// The refusal of a number.
+    /// The refusal of a number; of 4 and 10 it is the carrier's and the symbols'.
     pub fn from_number(number: u8) -> Option<Refusal> {
         Self::ALL.into_iter().find(|r| r.number() == number)
     }
@@ -84,12 +88,14 @@ impl Refusal {
             Refusal::BadKinds => "not thirteen kinds of 0 or 1",
             Refusal::BadPhase => "a phase above 3",
             Refusal::BadCarrier => "a carrier at or above k_total",
+            Refusal::BadIndex => "an index of no spectrum",
             Refusal::BadFloats => "floats that are not whole spectra or samples, or too many",
             Refusal::NoSpectra => "no spectra",
             Refusal::BadLength => "an output of the wrong length, or too short a scratch",
             Refusal::BadBound => "a bound above n/2",
             Refusal::BadGuard => "a guard other than 4, 8, 16, 32",
             Refusal::BadSymbols => "more than 64 symbols",
+            Refusal::BadWindow => "a time window above 64",
         }
     }
 }

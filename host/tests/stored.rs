@@ -3,7 +3,8 @@
 use sillurwy::params::{kinds_from_codes, GuardInterval, Kinds, Mode, Phase, SegmentKind};
 use sillurwy::pilot_phase::PilotPhase;
 use sillurwy::{
-    carrier_lists, complex, frame, guess, ieee, ofdm, pilot_phase, prbs, segment_kinds, shift, tmcc,
+    carrier_lists, chanest, complex, frame, guess, ieee, ofdm, pilot_phase, prbs, segment_kinds,
+    shift, tmcc,
 };
 use std::fs;
 use std::path::Path;
@@ -216,6 +217,59 @@ fn acquisition() {
         }
     }
     assert!(held[1..].iter().all(|&calls| calls >= 5), "{held:?}");
+}
+
+/// A stored call of the grid whose codes are good.
+struct GridCall {
+    mode: Mode,
+    phase: Phase,
+    kinds: Kinds,
+    floats: Vec<f32>,
+    index: usize,
+    w: usize,
+    lent: usize,
+    code: u8,
+}
+
+/// The next call of the grid; none where mode, phase or kinds are bad, which the types rule out.
+fn grid_call(stored: &mut Stored) -> Option<GridCall> {
+    let (mode, phase, kinds) = (stored.byte(), stored.byte(), stored.size(1));
+    let (floats, index, w) = (stored.size(2), stored.size(2), stored.size(2));
+    let (lent, code) = (stored.size(2), stored.byte());
+    let (kinds, floats) = (stored.take(kinds), stored.take(floats));
+    Some(GridCall {
+        mode: Mode::from_number(mode).ok()?,
+        phase: Phase::from_number(phase).ok()?,
+        kinds: kinds_from_codes(&kinds).ok()?,
+        floats: floats.iter().map(|&b| f32::from(b) - 128.0).collect(),
+        index,
+        w,
+        lent,
+        code,
+    })
+}
+
+#[test]
+fn grid() {
+    let mut stored = Stored::open("crates/replay_grid/stdin");
+    let mut held = [0; 2];
+    while stored.more() {
+        let Some(call) = grid_call(&mut stored) else {
+            continue;
+        };
+        let mut grid = vec![7.0; call.lent];
+        let (mode, phase, kinds) = (call.mode, call.phase, &call.kinds);
+        let (index, w) = (call.index, call.w);
+        let found =
+            chanest::estimate_grid_lent(mode, phase, kinds, &call.floats, index, w, &mut grid);
+        assert_eq!(found.err().map_or(0, |refusal| refusal.number()), call.code);
+        match found {
+            Ok(()) => stored.hold_f32(&grid),
+            Err(_) => assert!(grid.iter().all(|&point| point == 7.0)),
+        }
+        held[usize::from(found.is_err())] += 1;
+    }
+    assert_eq!(held, [14, 5]);
 }
 
 #[test]

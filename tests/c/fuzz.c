@@ -578,6 +578,36 @@ static void detect_sp_phase(struct bytes *in)
     }
 }
 
+static void estimate_grid(struct bytes *in)
+{
+    uint8_t mode = a_mode(in);
+    size_t k_total = bad_mode(mode) ? 1405 : SILLURWY_TOTAL_CARRIERS(mode);
+    uint8_t phase = a_phase(in);
+    struct codes kinds = some_kinds(in);
+    size_t len = some_spectra(in, k_total);
+    const float *spectra = some_floats(in, "spectra", len);
+    size_t count = len / (2 * k_total);
+    size_t index = count == 0 ? a_byte(in) : a_bounded(in, count - 1);
+    size_t w = a_byte(in) < 128 ? a_byte(in) % 8 : a_bounded(in, SILLURWY_MOST_WINDOW);
+    size_t grid_len = a_length(in, SILLURWY_GRID_LENGTH(mode));
+    float *grid = a_buffer(in, "grid", grid_len, sizeof *grid);
+    lent_ready();
+    uint8_t code = sillurwy_estimate_grid(mode, phase, kinds.at, kinds.len, spectra, len, index, w,
+                                          grid, grid_len);
+    uint8_t owed = bad_mode(mode)                             ? 1
+                   : bad_kinds(kinds)                         ? 2
+                   : phase > 3                                ? 3
+                   : bad_spectra(len, k_total)                ? 5
+                   : len == 0                                 ? 6
+                   : index >= count                           ? 4
+                   : w > SILLURWY_MOST_WINDOW                 ? 10
+                   : grid_len != SILLURWY_GRID_LENGTH(mode)   ? 7
+                                                              : 0;
+    if (accepted(code, owed) && memchr(kinds.at, SILLURWY_COHERENT, kinds.len) == NULL) {
+        must(lent_kept(grid, 4 * grid_len), "grid");
+    }
+}
+
 /* ---- Floats: they are held to the compiler's own root and conversion. ---- */
 
 static bool same_f64(double a, double b)
@@ -646,6 +676,7 @@ static const struct target targets[] = {
     {"detect_kinds", detect_kinds, 2},
     {"tmcc_soft", tmcc_soft, 5},
     {"detect_sp_phase", detect_sp_phase, 2},
+    {"estimate_grid", estimate_grid, 2},
     {"root", root, 200},
     {"narrow", narrow, 200},
     {"norm32", norm32, 200},

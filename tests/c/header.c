@@ -13,6 +13,7 @@
     HOLDS(k_of_mode_##m, SILLURWY_TOTAL_CARRIERS(m) == (k));        \
     HOLDS(band_of_mode_##m, 13 * (c) + 1 == (k));                   \
     HOLDS(data_of_mode_##m, SILLURWY_DATA_LIST_LENGTH(m) == 13 * (nc)); \
+    HOLDS(grid_of_mode_##m, SILLURWY_GRID_LENGTH(m) == 2 * ((k) / 3 + 2)); \
     HOLDS(continual_of_mode_##m, SILLURWY_CONTINUAL_LIST_MOST(m) == 13 * ((c) - (nc)) + 1)
 
 MODE_HOLDS(1, 2048, 108, 96, 1405);

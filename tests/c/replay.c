@@ -1,7 +1,7 @@
 /* Calls every function of sillurwy.h from C and holds the answers to the stored ones, which
  * oracle/store wrote (oracle/README.md, "The stored answers", has the form of the files).
  *
- *   replay LAYOUT ACQUIRE FLOATS [NAME]
+ *   replay LAYOUT ACQUIRE GRID FLOATS [NAME]
  *
  * It prints for each function how many calls were compared and how many differ. The exit status is
  * 1 if any differs, if a file cannot be read to its end, or if a function was not called. With a
@@ -27,6 +27,7 @@ enum function {
     DETECT_KINDS,
     TMCC_SOFT,
     DETECT_SP_PHASE,
+    ESTIMATE_GRID,
     ROOT,
     NARROW,
     NORM32,
@@ -35,9 +36,10 @@ enum function {
 };
 
 static const char *const names[FUNCTIONS] = {
-    "carrier_bin",  "role_map",     "sign_map",  "data_list",       "continual_list",
+    "carrier_bin",    "role_map",    "sign_map",    "data_list",    "continual_list",
     "samples_needed", "detect_mode", "integer_cfo", "detect_kinds", "tmcc_soft",
-    "detect_sp_phase", "root",      "narrow",    "norm32",          "norm64",
+    "detect_sp_phase", "estimate_grid", "root",     "narrow",       "norm32",
+    "norm64",
 };
 
 static unsigned long calls[FUNCTIONS];
@@ -320,6 +322,17 @@ static void replay_layout(struct reader *in)
 
 /* ---- Acquisition ---- */
 
+/* Spectra or samples, each float in a byte that is 128 more. */
+static float *floats(struct reader *in, size_t len)
+{
+    const uint8_t *bytes = take(in, len);
+    float *values = room(len, sizeof *values);
+    for (size_t i = 0; i < len; i++) {
+        values[i] = (float)(bytes[i] - 128);
+    }
+    return values;
+}
+
 /* A call as it is stored. */
 struct call {
     uint8_t mode;
@@ -508,11 +521,7 @@ static void replay_acquire(struct reader *in)
         call.code = byte(in);
         call.first = take(in, call.first_len);
         call.second = take(in, call.second_len);
-        const uint8_t *bytes = take(in, call.len);
-        call.floats = room(call.len, sizeof *call.floats);
-        for (size_t i = 0; i < call.len; i++) {
-            call.floats[i] = (float)(bytes[i] - 128);
-        }
+        call.floats = floats(in, call.len);
         switch (operation) {
         case 1: integer_cfo(in, &call); break;
         case 2: detect_kinds(in, &call); break;
@@ -523,6 +532,52 @@ static void replay_acquire(struct reader *in)
         default: fail("has an operation that is not known", in->name);
         }
         free(call.floats);
+    }
+}
+
+/* ---- The grid ---- */
+
+/* What the grid holds before a call. */
+static const float held = 7;
+
+static bool are_held(const float *values, size_t len)
+{
+    bool good = true;
+    for (size_t i = 0; i < len; i++) {
+        good &= f32_bits(values[i]) == f32_bits(held);
+    }
+    return good;
+}
+
+static void replay_grid(struct reader *in)
+{
+    while (in->at < in->size) {
+        uint8_t mode = byte(in);
+        uint8_t phase = byte(in);
+        size_t kinds_len = byte(in);
+        size_t len = (size_t)number(in, 2);
+        size_t index = (size_t)number(in, 2);
+        size_t w = (size_t)number(in, 2);
+        size_t lent = (size_t)number(in, 2);
+        uint8_t owed = byte(in);
+        const uint8_t *kinds = take(in, kinds_len);
+        float *spectra = floats(in, len);
+        float *grid = room(lent, sizeof *grid);
+        for (size_t i = 0; i < lent + 1; i++) {
+            grid[i] = held;
+        }
+        uint8_t code = sillurwy_estimate_grid(mode, phase, kinds, kinds_len, spectra, len, index,
+                                              w, grid, lent);
+        bool good = code == owed && are_held(grid + lent, 1);
+        if (owed != 0) {
+            good &= are_held(grid, lent);
+        } else {
+            answer_of(in, ESTIMATE_GRID);
+            good &= are_f32(in, grid, lent);
+        }
+        count(ESTIMATE_GRID, good);
+        free(grid);
+        free(spectra);
     }
 }
 
@@ -558,24 +613,27 @@ static void replay_floats(struct reader *in)
 
 int main(int words, char **word)
 {
-    if (words == 5) {
-        for (damaged = 0; damaged < FUNCTIONS && strcmp(names[damaged], word[4]) != 0;) {
+    if (words == 6) {
+        for (damaged = 0; damaged < FUNCTIONS && strcmp(names[damaged], word[5]) != 0;) {
             damaged++;
         }
     }
-    if (words != 4 && (words != 5 || damaged == FUNCTIONS)) {
-        fprintf(stderr, "usage: replay LAYOUT ACQUIRE FLOATS [NAME]\n");
+    if (words != 5 && (words != 6 || damaged == FUNCTIONS)) {
+        fprintf(stderr, "usage: replay LAYOUT ACQUIRE GRID FLOATS [NAME]\n");
         return 2;
     }
     struct reader layout = opened(word[1]);
     struct reader acquire = opened(word[2]);
-    struct reader floats = opened(word[3]);
+    struct reader grid = opened(word[3]);
+    struct reader values = opened(word[4]);
     replay_layout(&layout);
     replay_acquire(&acquire);
-    replay_floats(&floats);
+    replay_grid(&grid);
+    replay_floats(&values);
     free(layout.bytes);
     free(acquire.bytes);
-    free(floats.bytes);
+    free(grid.bytes);
+    free(values.bytes);
 
     unsigned long all = 0;
     unsigned long wrong = 0;

@@ -10,6 +10,7 @@ ghost use Rattle.complex.specs.Complex.{pair, norm32, norm64};
 ghost use Rattle.prbs.specs.SignMap.{SignMap};
 ghost use Rattle.frame.specs.Operations.{RoleMap};
 ghost use Rattle.carrier_lists.specs.Operations.{DataList};
+ghost use Rattle.chanest.specs.Grid.{GridEstimated};
 ghost use Rattle.host.specs.Host.{CarrierBin, ContinualCount, ShiftLent, KindsLent, SamplesLent, GuessLent, SoftLent, PhaseLent};
 ghost use lib.ListN.{length};
 ghost use Rattle.guess.specs.Samples.{samplesAnswer};
@@ -235,6 +236,22 @@ pub extern "C" fn sillurwy_detect_sp_phase(
     *phase = number;
     *share = part;
     0
+}
+
+// The channel at the points of the grid.
+#[no_mangle]
+pub extern "C" fn sillurwy_estimate_grid(
+    mode: u8,
+    phase: u8,
+    kinds: &[u8],
+    spectra: &[f32],
+    index: usize,
+    w: usize,
+    grid: &mut [f32],
+) -> u8
+    ensures { λ r. ⌜ GridEstimated (modeFrom mode) phase (now (kinds .entry)) (now (spectra .entry)) index w (now (grid .entry)) r (now (grid .exit)) ⌝ }
+{
+    chanest::estimate_grid(mode, phase, kinds, spectra, index, w, grid)
 }
 
 // The f64 nearest to the root of x.

@@ -11,205 +11,38 @@ use guess::SamplesNeeded;
 use pilot_phase::PilotPhase;
 use replay::Head;
 use replay::Tally;
+use replay_floats::check_32;
+use replay_floats::check_64;
+use replay_floats::check_floats;
+use replay_floats::check_number;
+use replay_floats::wide;
 use shift::ShiftAnswer;
 use tmcc::SoftTmcc;
 
-// Room for the most parts that a record has, as they are stored, and as floats. Each `ensures` gives
-// the length alone, which lending needs.
-fn byte_room() -> [u8; 21504]
-    ensures { λ r. ⌜ 21504 ≡ length r ⌝ }
-{
-    [0; 21504]
-}
-
-fn float_room() -> [f32; 21504]
-    ensures { λ r. ⌜ 21504 ≡ length r ⌝ }
-{
-    [0.0; 21504]
-}
-
-// Room for ratios and for the scratch of the guess: each entry is 7, and a refusal leaves it so.
-fn ratio_room() -> [f32; 32259]
-    ensures { λ r. ⌜ 32259 ≡ length r ⌝ }
-{
-    [7.0; 32259]
-}
-
+// Room for the scratch of the guess: each entry is 7, and a refusal leaves it so. The `ensures`
+// gives the length alone, which lending needs.
 fn scratch_room() -> [f64; 32259]
     ensures { λ r. ⌜ 32259 ≡ length r ⌝ }
 {
     [7.0; 32259]
 }
 
-// The bits of 7 in both formats.
-const SEVEN_32: u64 = 0x40e0_0000;
-
-const SEVEN_64: u64 = 0x401c_0000_0000_0000;
-
-fn wide(number: u32) -> u64 {
-    number as u64
-}
-
-// The bits of a float; every NaN has the same ones.
-fn bits_32(x: f32) -> u64 {
-    if x != x {
-        return 0x7fc0_0000;
-    }
-    wide(f32::to_bits(x))
-}
-
-fn bits_64(x: f64) -> u64 {
-    if x != x {
-        return 0x7ff8_0000_0000_0000;
-    }
-    f64::to_bits(x)
-}
-
-// The number of four bytes, the low one first, that begins at an index.
-fn word_at(bytes: &[u8], at: usize) -> u64
-    requires { ⌜ at + 4 ≤ length (now bytes) ⌝ }
-{
-    replay::number_at(bytes, at + 2) << 16 | replay::number_at(bytes, at)
-}
-
-// What a stored byte stands for: 128 less than itself.
-fn value_of(byte: u8) -> f32 {
-    byte as f32 - 128.0
-}
-
-// Writes what the first n bytes stand for.
-fn put_values(bytes: &[u8], n: usize, out: &mut [f32])
-    requires { ⌜ (n ≤ length (now bytes)) × (n ≤ length (now out)) ⌝ }
-{
-    let mut i: usize = 0;
-    while i < n {
-        out[i] = value_of(bytes[i]);
-        i += 1;
-    }
-}
-
-// Reads n parts of spectra or samples: whether they were there and found room.
-fn read_floats(out: &mut [f32], n: usize) -> bool {
-    if out.len() < n {
-        return false;
-    }
-    if 21504 < n {
-        return false;
-    }
-    let mut room = byte_room();
-    if !replay::read_part(&mut room, n) {
-        return false;
-    }
-    put_values(&room, n, out);
-    true
-}
-
-// Reads a number of four bytes, and compares it with what the port gave.
-fn check_number(got: u64, tally: Tally) -> Tally {
-    if tally.cut {
-        return tally;
-    }
-    let mut room = [0u8; 4];
-    if !replay::read_part(&mut room, 4) {
-        return tally.ended();
-    }
-    tally.entry(got == word_at(&room, 0))
-}
-
-// The bits of a float of four bytes.
-fn check_32(got: f32, tally: Tally) -> Tally {
-    check_number(bits_32(got), tally)
-}
-
-// The bits of a float of eight bytes.
-fn check_64(got: f64, tally: Tally) -> Tally {
-    if tally.cut {
-        return tally;
-    }
-    let mut room = [0u8; 8];
-    if !replay::read_part(&mut room, 8) {
-        return tally.ended();
-    }
-    tally.entry(bits_64(got) == word_at(&room, 4) << 32 | word_at(&room, 0))
-}
-
-fn joined(low: u8, high: u8) -> u16 {
-    (high as u16) << 8 | low as u16
-}
-
-// What a stored number with a sign stands for: 32,768 less than itself.
-fn signed(number: u16) -> i64 {
-    number as i64 - 32768
-}
-
-// Reads a number of two bytes that has a sign, and compares it.
-fn check_signed(got: i64, tally: Tally) -> Tally {
-    if tally.cut {
-        return tally;
-    }
-    let mut room = [0u8; 2];
-    if !replay::read_part(&mut room, 2) {
-        return tally.ended();
-    }
-    tally.entry(got == signed(joined(room[0], room[1])))
-}
-
-// Compares the first n floats that the port gave with those that are stored.
-fn compare_floats(got: &[f32], stored: &[u8], n: usize, tally: Tally) -> Tally
-    requires { ⌜ (n ≤ length (now got)) × (4 * n ≤ length (now stored)) ⌝ }
-{
-    let mut t = tally;
-    let mut i: usize = 0;
-    while i < n {
-        t = t.entry(bits_32(got[i]) == word_at(stored, 4 * i));
-        i += 1;
-    }
-    t
-}
-
-// Reads n floats, and compares each with what the port gave.
-fn check_floats(got: &[f32], n: usize, tally: Tally) -> Tally {
-    if tally.cut {
-        return tally;
-    }
-    if got.len() < n {
-        return tally.ended();
-    }
-    if 5376 < n {
-        return tally.ended();
-    }
-    let mut room = byte_room();
-    if !replay::read_part(&mut room, 4 * n) {
-        return tally.ended();
-    }
-    compare_floats(got, &room, n, tally)
-}
-
-// Whether every ratio is the 7 that was there before.
-fn are_left(ratios: &[f32]) -> bool {
-    let mut i: usize = 0;
-    while i < ratios.len() {
-        if bits_32(ratios[i]) != SEVEN_32 {
-            return false;
-        }
-        i += 1;
-    }
-    true
-}
+// The bits of 7.
+const SEVEN: u64 = 0x401c_0000_0000_0000;
 
 // The bits of an entry of the scratch of which the first n are zeros.
 fn cleared_bits(i: usize, n: usize) -> u64 {
     if i < n {
         return 0;
     }
-    SEVEN_64
+    SEVEN
 }
 
 // Whether the first n entries of the scratch are zeros, and the others 7 as before.
 fn is_cleared(scratch: &[f64], n: usize) -> bool {
     let mut i: usize = 0;
     while i < scratch.len() {
-        if bits_64(scratch[i]) != cleared_bits(i, n) {
+        if replay_floats::bits_64(scratch[i]) != cleared_bits(i, n) {
             return false;
         }
         i += 1;
@@ -235,27 +68,17 @@ struct Asked {
     code: u8,
 }
 
-fn size_at(head: &[u8], at: usize) -> usize
-    requires { ⌜ at + 2 ≤ length (now head) ⌝ }
-{
-    replay::number_at(head, at) as usize
-}
-
-fn short_size(byte: u8) -> usize {
-    byte as usize
-}
-
 fn asked_by(head: &[u8]) -> Asked
     requires { ⌜ length (now head) ≡ 12 ⌝ }
 {
     Asked {
         mode: head[1],
         filter: head[2],
-        first: short_size(head[3]),
-        second: short_size(head[4]),
-        floats: size_at(head, 5),
-        number: size_at(head, 7),
-        lent: size_at(head, 9),
+        first: replay_floats::short_size(head[3]),
+        second: replay_floats::short_size(head[4]),
+        floats: replay_floats::size_at(head, 5),
+        number: replay_floats::size_at(head, 7),
+        lent: replay_floats::size_at(head, 9),
         code: head[11],
     }
 }
@@ -286,9 +109,9 @@ fn shift_of(answer: ShiftAnswer) -> Shift {
 fn compare_shift(asked: Asked, got: Shift, ratios: &[f32], tally: Tally) -> Tally {
     let coded = tally.entry(got.code == asked.code);
     if asked.code != 0 {
-        return coded.entry(are_left(ratios));
+        return coded.entry(replay_floats::are_left(ratios));
     }
-    let shifted = check_signed(got.shift, coded);
+    let shifted = replay_floats::check_signed(got.shift, coded);
     check_floats(ratios, asked.lent, check_32(got.score, shifted))
 }
 
@@ -296,7 +119,7 @@ fn check_shift(asked: Asked, floats: &[f32], tally: Tally) -> Tally
     requires { ⌜ asked .lent ≤ 32259 ⌝ }
 {
     let lent = asked.lent;
-    let mut space = ratio_room();
+    let mut space = replay_floats::lent_room();
     let ratios: &mut [f32] = &mut space;
     let answer = shift::integer_cfo(asked.mode, floats, asked.number, &mut ratios[0..lent]);
     compare_shift(asked, shift_of(answer), ratios, tally)
@@ -311,7 +134,7 @@ fn compare_kinds(
     tally: Tally,
 ) -> Tally {
     if asked.code != 0 {
-        return tally.entry(are_left(ratios));
+        return tally.entry(replay_floats::are_left(ratios));
     }
     if kinds.len() < 13 {
         return tally.ended();
@@ -324,7 +147,7 @@ fn check_kinds(asked: Asked, floats: &[f32], tally: Tally) -> Tally
     requires { ⌜ asked .lent ≤ 32259 ⌝ }
 {
     let lent = asked.lent;
-    let mut space = ratio_room();
+    let mut space = replay_floats::lent_room();
     let ratios: &mut [f32] = &mut space;
     let answer = segment_kinds::detect_kinds(asked.mode, floats, &mut ratios[0..lent]);
     let kinds = answer.kinds;
@@ -344,7 +167,7 @@ fn soft_of(answer: SoftTmcc) -> Single {
     match answer {
         SoftTmcc::Value(v) => Single {
             code: 0,
-            value: bits_32(v),
+            value: replay_floats::bits_32(v),
         },
         SoftTmcc::Refused(code) => Single {
             code: code,
@@ -518,7 +341,7 @@ fn read_lists(first: &mut [u8], second: &mut [u8], floats: &mut [f32], asked: As
     if !replay::read_part(second, asked.second) {
         return false;
     }
-    read_floats(floats, asked.floats)
+    replay_floats::read_floats(floats, asked.floats)
 }
 
 fn check_record(operation: u8, asked: Asked, tally: Tally) -> Tally {
@@ -534,12 +357,12 @@ fn check_record(operation: u8, asked: Asked, tally: Tally) -> Tally {
     if 16 < b {
         return tally.ended();
     }
-    if 21504 < n {
+    if 22468 < n {
         return tally.ended();
     }
     let mut first = [0u8; 16];
     let mut second = [0u8; 16];
-    let mut floats = float_room();
+    let mut floats = replay_floats::float_room();
     if !read_lists(&mut first, &mut second, &mut floats, asked) {
         return tally.ended();
     }
@@ -592,7 +415,7 @@ fn put_whole(counts: &mut [u64])
 fn replay_record(head: &[u8], counts: &mut [u64]) -> bool
     requires { ⌜ (length (now head) ≡ 12) × (length (now counts) ≡ 14) ⌝ }
 {
-    let i = short_size(head[0]);
+    let i = replay_floats::short_size(head[0]);
     if i == 0 {
         put_broken(counts);
         return false;

@@ -1,11 +1,11 @@
--- `replay_acquire::put_values` is safe and ends: the index stays below n, and a write keeps the length.
+-- `replay_floats::put_values` is safe and ends: the index stays below n, and a write keeps the length.
 -- Assumes nothing.
 use Prim.Native.Nat.{_-_, _≤_}
 use lib.ListN.{length}
 use mathlib.Core.Path.{_≡_}
 use borrow.Author.Needs.{needs}
-use Rattle.replay_acquire.proofs.put_values.Statement.{statement}
-use Rattle.replay_acquire.proofs.put_values.Tie as tie
+use Rattle.replay_floats.proofs.put_values.Statement.{statement}
+use Rattle.replay_floats.proofs.put_values.Tie as tie
 
 abbrev Inv-loop : tie.InvT-loop
 Inv-loop bytes n out₀ i₀ out i = (i ≤ n) × (length out ≡ length out₀)

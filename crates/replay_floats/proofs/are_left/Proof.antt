@@ -1,15 +1,16 @@
--- `replay_acquire::compare_floats` is safe and ends: there are four bytes to a float, and the index stays below n.
+-- `replay_floats::are_left` is safe and ends: the index stays below the length.
 -- Assumes nothing.
 use Prim.Native.Nat.{_-_, _≤_}
+use lib.ListN.{length}
 use borrow.Author.Needs.{needs}
-use Rattle.replay_acquire.proofs.compare_floats.Statement.{statement}
-use Rattle.replay_acquire.proofs.compare_floats.Tie as tie
+use Rattle.replay_floats.proofs.are_left.Statement.{statement}
+use Rattle.replay_floats.proofs.are_left.Tie as tie
 
 abbrev Inv-loop : tie.InvT-loop
-Inv-loop got stored n t₀ i₀ t i = i ≤ n
+Inv-loop floats i₀ i = i ≤ length floats
 
 abbrev μ-loop : tie.MeasureT-loop
-μ-loop got stored n t₀ i₀ t i = n - i
+μ-loop floats i₀ i = length floats - i
 
 loop-holds : tie.Need-loop-holds Inv-loop μ-loop
 loop-holds c = search needs
@@ -23,14 +24,8 @@ shared-slice-read-bits-32 c = search needs
 bits-32-requires : tie.Need-bits-32-requires Inv-loop μ-loop
 bits-32-requires c κs = search needs
 
-mul-word-at : tie.Need-mul-word-at Inv-loop μ-loop
-mul-word-at c = search needs
-
-word-at-requires : tie.Need-word-at-requires Inv-loop μ-loop
-word-at-requires c κs = search needs
-
-entry-requires : tie.Need-entry-requires Inv-loop μ-loop
-entry-requires c κs = search needs
+returns : tie.Need-returns Inv-loop μ-loop
+returns c = search needs
 
 add-i : tie.Need-add-i Inv-loop μ-loop
 add-i c = search needs
@@ -41,11 +36,11 @@ loop-less c = search needs
 loop-again : tie.Need-loop-again Inv-loop μ-loop
 loop-again c = search needs
 
-returns : tie.Need-returns Inv-loop μ-loop
-returns c = search needs
+returns-2 : tie.Need-returns-2 Inv-loop μ-loop
+returns-2 c = search needs
 
-pub compare-floats-spec : {M : Type 1} → statement M
-compare-floats-spec =
+pub are-left-spec : {M : Type 1} → statement M
+are-left-spec =
     tie.close
     (tie.spec
     Inv-loop
@@ -54,10 +49,8 @@ compare-floats-spec =
     mul-bits-32
     shared-slice-read-bits-32
     bits-32-requires
-    mul-word-at
-    word-at-requires
-    entry-requires
+    returns
     add-i
     loop-less
     loop-again
-    returns)
+    returns-2)

@@ -1,16 +1,15 @@
--- `replay_acquire::are_left` is safe and ends: the index stays below the length.
+-- `replay_floats::compare_floats` is safe and ends: there are four bytes to a float, and the index stays below n.
 -- Assumes nothing.
 use Prim.Native.Nat.{_-_, _≤_}
-use lib.ListN.{length}
 use borrow.Author.Needs.{needs}
-use Rattle.replay_acquire.proofs.are_left.Statement.{statement}
-use Rattle.replay_acquire.proofs.are_left.Tie as tie
+use Rattle.replay_floats.proofs.compare_floats.Statement.{statement}
+use Rattle.replay_floats.proofs.compare_floats.Tie as tie
 
 abbrev Inv-loop : tie.InvT-loop
-Inv-loop ratios i₀ i = i ≤ length ratios
+Inv-loop got stored n t₀ i₀ t i = i ≤ n
 
 abbrev μ-loop : tie.MeasureT-loop
-μ-loop ratios i₀ i = length ratios - i
+μ-loop got stored n t₀ i₀ t i = n - i
 
 loop-holds : tie.Need-loop-holds Inv-loop μ-loop
 loop-holds c = search needs
@@ -24,8 +23,14 @@ shared-slice-read-bits-32 c = search needs
 bits-32-requires : tie.Need-bits-32-requires Inv-loop μ-loop
 bits-32-requires c κs = search needs
 
-returns : tie.Need-returns Inv-loop μ-loop
-returns c = search needs
+mul-word-at : tie.Need-mul-word-at Inv-loop μ-loop
+mul-word-at c = search needs
+
+word-at-requires : tie.Need-word-at-requires Inv-loop μ-loop
+word-at-requires c κs = search needs
+
+entry-requires : tie.Need-entry-requires Inv-loop μ-loop
+entry-requires c κs = search needs
 
 add-i : tie.Need-add-i Inv-loop μ-loop
 add-i c = search needs
@@ -36,11 +41,11 @@ loop-less c = search needs
 loop-again : tie.Need-loop-again Inv-loop μ-loop
 loop-again c = search needs
 
-returns-2 : tie.Need-returns-2 Inv-loop μ-loop
-returns-2 c = search needs
+returns : tie.Need-returns Inv-loop μ-loop
+returns c = search needs
 
-pub are-left-spec : {M : Type 1} → statement M
-are-left-spec =
+pub compare-floats-spec : {M : Type 1} → statement M
+compare-floats-spec =
     tie.close
     (tie.spec
     Inv-loop
@@ -49,8 +54,10 @@ are-left-spec =
     mul-bits-32
     shared-slice-read-bits-32
     bits-32-requires
-    returns
+    mul-word-at
+    word-at-requires
+    entry-requires
     add-i
     loop-less
     loop-again
-    returns-2)
+    returns)

@@ -1,4 +1,4 @@
--- `replay_acquire::signed` is safe: a number below 65,536 less 32,768 is far from both ends.
+-- `replay_floats::signed` is safe: a number below 65,536 less 32,768 is far from both ends.
 -- Assumes nothing.
 use Prim.Native.Nat.{ℕ, _<_, _≤_, _-_, suc}
 use mathlib.Core.Path.{_≡_}
@@ -11,8 +11,8 @@ use mir.Syntax.{w64}
 use mir.Val.{SFits, toZ}
 use mir.ValLaws.{toZ-pos}
 use borrow.Author.Needs.{needs}
-use Rattle.replay_acquire.proofs.signed.Statement.{statement}
-use Rattle.replay_acquire.proofs.signed.Tie as tie
+use Rattle.replay_floats.proofs.signed.Statement.{statement}
+use Rattle.replay_floats.proofs.signed.Tie as tie
 
 size : (n : ℕ) → n < 65536 → mag (pos n -ℤ pos 32768) < 65536
 size n h = by (decLt n 32768)

@@ -1,9 +1,9 @@
--- `replay_acquire::bits_64` is safe: what is its own equal is no NaN.
+-- `replay_floats::bits_64` is safe: what is its own equal is no NaN.
 -- Assumes nothing.
-use Rattle.replay_acquire.proofs.Floats.{no-nan}
+use Rattle.replay_floats.proofs.Floats.{no-nan}
 use borrow.Author.Needs.{needs}
-use Rattle.replay_acquire.proofs.bits_64.Statement.{statement}
-use Rattle.replay_acquire.proofs.bits_64.Tie as tie
+use Rattle.replay_floats.proofs.bits_64.Statement.{statement}
+use Rattle.replay_floats.proofs.bits_64.Tie as tie
 
 returns : tie.Need-returns
 returns c = search needs

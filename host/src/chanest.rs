@@ -1,0 +1,96 @@
+//! The channel, from the pilots.
+
+use crate::ffi;
+use crate::params::{kind_codes, Kinds, Mode, Phase};
+use crate::refusal::{accepted, Refusal};
+
+/// The largest time window.
+pub const MOST_WINDOW: usize = 64;
+
+/// Floats of the grid in a mode: k_total/3 + 2 pairs.
+pub fn grid_length(mode: Mode) -> usize {
+    2 * (mode.total_carriers() / 3 + 2)
+}
+
+/// The pilot grid of one spectrum: the channel at every third carrier, in pairs, from the pilots of the
+/// spectra around it. Points that are not estimated are zeros.
+///
+/// The spectra are consecutive, each of k_total pairs by carrier; `index` is the current one, `phase`
+/// its phase, `w` the time window.
+///
+/// Refused: [`BadFloats`](Refusal::BadFloats) unless whole spectra, at most
+/// [`MOST_SPECTRA`](crate::MOST_SPECTRA); [`NoSpectra`](Refusal::NoSpectra);
+/// [`BadIndex`](Refusal::BadIndex); [`BadWindow`](Refusal::BadWindow) above [`MOST_WINDOW`].
+///
+/// ```
+/// use sillurwy::chanest::estimate_grid;
+/// use sillurwy::params::{Mode, Phase, SegmentKind};
+/// use sillurwy::Refusal;
+///
+/// let kinds = [SegmentKind::Differential; 13];
+/// let spectra: Vec<f32> = [1.0, 0.0].repeat(3 * 1405);
+/// // No segment is coherent, so nothing is estimated.
+/// let grid = estimate_grid(Mode::M1, Phase::P0, &kinds, &spectra, 1, 4)?;
+/// assert_eq!(grid, vec![0.0; 940]);
+/// let refused = estimate_grid(Mode::M1, Phase::P0, &kinds, &spectra, 3, 4);
+/// assert_eq!(refused, Err(Refusal::BadIndex));
+/// # Ok::<(), Refusal>(())
+/// ```
+pub fn estimate_grid(
+    mode: Mode,
+    phase: Phase,
+    kinds: &Kinds,
+    spectra: &[f32],
+    index: usize,
+    w: usize,
+) -> Result<Vec<f32>, Refusal> {
+    let mut grid = vec![0.0; grid_length(mode)];
+    estimate_grid_lent(mode, phase, kinds, spectra, index, w, &mut grid)?;
+    Ok(grid)
+}
+
+/// [`estimate_grid`] into a lent slice of [`grid_length`] floats. Points that are not estimated keep
+/// their contents.
+///
+/// Refused: as above; last, [`BadLength`](Refusal::BadLength) for a slice of another length.
+///
+/// ```
+/// use sillurwy::chanest::{estimate_grid_lent, grid_length};
+/// use sillurwy::params::{Mode, Phase, SegmentKind};
+///
+/// let kinds = [SegmentKind::Differential; 13];
+/// let mut grid = vec![7.0; grid_length(Mode::M1)];
+/// let silence = vec![0.0; 2 * 1405];
+/// estimate_grid_lent(Mode::M1, Phase::P0, &kinds, &silence, 0, 1, &mut grid)?;
+/// assert_eq!(grid, vec![7.0; 940]);
+/// # Ok::<(), sillurwy::Refusal>(())
+/// ```
+pub fn estimate_grid_lent(
+    mode: Mode,
+    phase: Phase,
+    kinds: &Kinds,
+    spectra: &[f32],
+    index: usize,
+    w: usize,
+    grid: &mut [f32],
+) -> Result<(), Refusal> {
+    let code = unsafe {
+        ffi::sillurwy_estimate_grid(
+            mode.number(),
+            phase.number(),
+            kind_codes(kinds),
+            kinds.len(),
+            spectra.as_ptr(),
+            spectra.len(),
+            index,
+            w,
+            grid.as_mut_ptr(),
+            grid.len(),
+        )
+    };
+    accepted(code).map_err(|refusal| match refusal {
+        Refusal::BadCarrier => Refusal::BadIndex,
+        Refusal::BadSymbols => Refusal::BadWindow,
+        other => other,
+    })
+}
