@@ -19,7 +19,7 @@ use crate::isdb::params::{GuardInterval, Mode, SEGMENTS};
 use crate::isdb::rx::acquire;
 use crate::rng::Rng;
 use crate::samples;
-use crate::timing::{Effort, time};
+use crate::timing::{Effort, Row, thousands, time};
 use std::hint::black_box;
 
 /// The mode of all spectra, and of the samples.
@@ -47,39 +47,19 @@ const MIXED: u16 = 0b0_0110_1001_0101;
 /// Every segment coherent.
 pub(crate) const COHERENT: u16 = 0;
 
-/// A row of the table.
-pub(crate) struct Row {
-    pub what: String,
-    /// Nanoseconds a call.
-    pub port: f64,
-    /// Nanoseconds a call.
-    pub rust: f64,
-}
-
-impl Row {
-    /// Times both; each call is given its number.
-    fn new<P, R>(
-        what: String,
-        effort: &Effort,
-        mut port: impl FnMut(usize) -> P,
-        mut rust: impl FnMut(usize) -> R,
-    ) -> Self {
-        Self {
-            what,
-            port: time(effort, |i| drop(black_box(port(i)))),
-            rust: time(effort, |i| drop(black_box(rust(i)))),
-        }
-    }
-
-    /// Prints it, in microseconds.
-    pub fn print(&self) {
-        println!(
-            "| {} | {:.0} | {:.0} | {:.2} |",
-            self.what,
-            self.port / 1e3,
-            self.rust / 1e3,
-            self.port / self.rust
-        );
+/// Times both; each call is given its number.
+fn row<P, R>(
+    operation: String,
+    part: &'static str,
+    effort: &Effort,
+    mut port: impl FnMut(usize) -> P,
+    mut rust: impl FnMut(usize) -> R,
+) -> Row {
+    Row {
+        operation,
+        part,
+        port: time(effort, |i| drop(black_box(port(i)))),
+        rust: time(effort, |i| drop(black_box(rust(i)))),
     }
 }
 
@@ -128,8 +108,13 @@ fn guess_row(effort: &Effort) -> Row {
         assert_eq!((guess.mode, usize::from(guess.guard)), put_in);
         assert_eq!(right, Ok(Some(guess)));
     }
-    Row::new(
-        "guess of 150,000 pairs, over all modes and guards; `detect_mode`".to_string(),
+    row(
+        format!(
+            "guess of {} pairs of mode {}, over all modes and guards",
+            thousands(SAMPLES),
+            MODE.number()
+        ),
+        "`detect_mode`",
         effort,
         |i| port_guess(&floats[i % CAPTURES], &modes, &mut scratch),
         |i| acquire::detect_mode(&samples[i % CAPTURES], &acquire::MODES, &acquire::GUARDS),
@@ -179,8 +164,9 @@ fn shift_row(count: usize, effort: &Effort) -> Row {
         );
     }
     let at = |i: usize| &captures[i % captures.len()];
-    Row::new(
-        format!("shift of {} spectra; `integer_cfo`", thousands(count)),
+    row(
+        of_spectra("shift", count),
+        "`integer_cfo`",
         effort,
         |i| port_shift(&at(i).floats, &mut ratios),
         |i| acquire::integer_cfo(MODE, &at(i).spectra, BOUND),
@@ -214,8 +200,9 @@ fn kinds_row(count: usize, effort: &Effort) -> Row {
         );
     }
     let at = |i: usize| &captures[i % captures.len()];
-    Row::new(
-        format!("kinds of {} spectra; `detect_kinds`", thousands(count)),
+    row(
+        of_spectra("kinds", count),
+        "`detect_kinds`",
         effort,
         |i| port_kinds(&at(i).floats, &mut ratios),
         |i| acquire::detect_kinds(MODE, &at(i).spectra),
@@ -243,11 +230,9 @@ fn phase_row(count: usize, effort: &Effort) -> Row {
         assert_eq!(right, Ok(phase));
     }
     let at = |i: usize| &captures[i % captures.len()];
-    Row::new(
-        format!(
-            "pilot phase of {} spectra; `detect_sp_phase`, of a layout already made",
-            thousands(count)
-        ),
+    row(
+        of_spectra("pilot phase", count),
+        "`detect_sp_phase`, of a layout already made",
         effort,
         |i| port_phase(&kinds, &at(i).floats),
         |i| acquire::detect_sp_phase(&layout, &at(i).spectra),
@@ -273,25 +258,14 @@ fn port_phase(kinds: &[u8], floats: &[f32]) -> Phase {
     }
 }
 
-/// A number below a million, its thousands set off by a comma.
-fn thousands(number: usize) -> String {
-    if number < 1000 {
-        return number.to_string();
-    }
-    format!("{},{:03}", number / 1000, number % 1000)
+/// The words of an operation on `count` spectra.
+pub(crate) fn of_spectra(what: &str, count: usize) -> String {
+    let (count, mode) = (thousands(count), MODE.number());
+    format!("{what} of {count} spectra, mode {mode}")
 }
 
-/// Prints the head of a table.
-pub(crate) fn print_head() {
-    println!(
-        "| operation, in mode 3; the Rust's part | port, µs a call | Rust, µs a call | port / Rust |"
-    );
-    println!("|---|---:|---:|---:|");
-}
-
-/// Prints the table.
-pub fn print_table(effort: &Effort) {
-    print_head();
+/// Every row.
+pub fn rows(effort: &Effort) -> Vec<Row> {
     let in_turn = Effort {
         calls: CAPTURES,
         ..*effort
@@ -301,22 +275,12 @@ pub fn print_table(effort: &Effort) {
         calls: 1,
         ..*effort
     };
-    guess_row(&in_turn).print();
+    let mut rows = vec![guess_row(&in_turn)];
     for row in [shift_row, kinds_row, phase_row] {
         for count in SPECTRA {
             let effort = if count < MANY { &in_turn } else { &few };
-            row(count, effort).print();
+            rows.push(row(count, effort));
         }
     }
-}
-
-#[cfg(test)]
-mod tests {
-    use super::*;
-
-    #[test]
-    fn thousands_have_a_comma() {
-        assert_eq!(thousands(32), "32");
-        assert_eq!(thousands(1024), "1,024");
-    }
+    rows
 }

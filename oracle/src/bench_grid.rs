@@ -1,13 +1,13 @@
 //! Times the grid as `bench_acquire` times acquisition: the linked port beside the Rust, windows in turn.
 
 use crate::acquire_port::LINKED;
-use crate::bench_acquire::{CAPTURES, COHERENT, Capture, MODE, Row, captures, print_head};
+use crate::bench_acquire::{CAPTURES, COHERENT, Capture, MODE, captures, of_spectra};
 use crate::captures::Places;
 use crate::codes::{kind_bytes, kinds_of_choice};
 use crate::grid_answers::{self as answers, at_offset, grid_floats};
 use crate::isdb::frame::FrameLayout;
 use crate::isdb::rx::chanest::{ChannelEstimator, lookahead};
-use crate::timing::{Effort, time};
+use crate::timing::{Effort, Row, time};
 use std::hint::black_box;
 
 /// The time window.
@@ -38,7 +38,11 @@ fn rust_grid(estimator: &mut ChannelEstimator, capture: &Capture) {
 }
 
 /// Every row. The Rust's layout is made before the time is taken.
-fn rows(effort: &Effort) -> [Row; 2] {
+pub fn rows(effort: &Effort) -> Vec<Row> {
+    let effort = &Effort {
+        calls: CAPTURES,
+        ..*effort
+    };
     let captures = captures(COHERENT, Places::Carriers, 2 * side() + 1);
     let layout = FrameLayout::new(MODE, kinds_of_choice(COHERENT));
     let kinds = kind_bytes(COHERENT);
@@ -65,32 +69,15 @@ fn rows(effort: &Effort) -> [Row; 2] {
         rust_grid(&mut estimator, at(i));
         black_box(estimator);
     });
-    let what = format!(
-        "grid of {} spectra, time window {W}",
-        captures[0].spectra.len()
-    );
-    [
-        Row {
-            what: format!("{what}; `estimate`, of an estimator already made"),
-            port,
-            rust: already_made,
-        },
-        Row {
-            what: format!("{what}; `ChannelEstimator::new` and `estimate`"),
-            port,
-            rust: making,
-        },
-    ]
-}
-
-/// Prints the table.
-pub fn print_table(effort: &Effort) {
-    print_head();
-    let in_turn = Effort {
-        calls: CAPTURES,
-        ..*effort
+    let what = of_spectra("grid", captures[0].spectra.len());
+    let row = |part, rust| Row {
+        operation: format!("{what}, time window {W}"),
+        part,
+        port,
+        rust,
     };
-    for row in rows(&in_turn) {
-        row.print();
-    }
+    vec![
+        row("`estimate`, of an estimator already made", already_made),
+        row("`ChannelEstimator::new` and `estimate`", making),
+    ]
 }

@@ -1,6 +1,6 @@
-//! Times the proved port beside the Rust: same driver, same inputs, the median of several rounds. The
-//! first table has the operations of the layout, the second the functions of floats, the third the
-//! operations of acquisition, the fourth the grid.
+//! Times the proved port beside the Rust: same driver, same inputs, the median of several rounds. One
+//! table has the operations of the layout, the functions of floats, the operations of acquisition and
+//! the grid.
 
 use oracle::answers;
 use oracle::args::Args;
@@ -13,7 +13,7 @@ use oracle::isdb::frame::FrameLayout;
 use oracle::isdb::params::{Mode, SEGMENTS};
 use oracle::isdb::rx;
 use oracle::rng::Rng;
-use oracle::timing::{Effort, time};
+use oracle::timing::{Effort, HEAD, Row, time};
 use std::fmt::Debug;
 use std::fs;
 use std::hint::black_box;
@@ -22,12 +22,20 @@ use std::time::{Duration, SystemTime, UNIX_EPOCH};
 const USAGE: &str = "\
 bench: time the proved port beside the Rust
 
-  --quick       fewer and shorter rounds
-  --only TABLE  nothing but one table: layout, floats, acquisition or grid
-  --help        this text";
+  --quick      fewer and shorter rounds
+  --only PART  nothing but the rows of one part: layout, floats, acquisition or grid
+  --help       this text";
 
-/// The tables that `--only` names.
-const TABLES: [&str; 4] = ["layout", "floats", "acquisition", "grid"];
+/// What gives the rows of a part.
+type Rows = fn(&Effort) -> Vec<Row>;
+
+/// The parts that `--only` names, in the table's order.
+const PARTS: [(&str, Rows); 4] = [
+    ("layout", layout_rows),
+    ("floats", float_rows),
+    ("acquisition", bench_acquire::rows),
+    ("grid", bench_grid::rows),
+];
 
 const FULL: Effort = Effort {
     rounds: 11,
@@ -54,26 +62,27 @@ fn options() -> Options {
     while let Some(word) = args.next_word() {
         match word.as_str() {
             "--quick" => options.effort = QUICK,
-            "--only" => options.only = Some(table(&mut args)),
+            "--only" => options.only = Some(part(&mut args)),
             _ => args.fail(format!("unknown word {word}")),
         }
     }
     options
 }
 
-/// The table that `--only` names.
-fn table(args: &mut Args) -> String {
-    let table = args.value("--only");
-    if !TABLES.contains(&table.as_str()) {
-        args.fail(format!("--only needs one of {TABLES:?}, not {table}"));
+/// The part that `--only` names.
+fn part(args: &mut Args) -> String {
+    let part = args.value("--only");
+    let names = PARTS.map(|(name, _)| name);
+    if !names.contains(&part.as_str()) {
+        args.fail(format!("--only needs one of {names:?}, not {part}"));
     }
-    table
+    part
 }
 
 impl Options {
-    /// True if the table is to be printed.
-    fn wants(&self, table: &str) -> bool {
-        self.only.as_deref().is_none_or(|only| only == table)
+    /// True if the rows of the part are to be printed.
+    fn wants(&self, part: &str) -> bool {
+        self.only.as_deref().is_none_or(|only| only == part)
     }
 }
 
@@ -111,75 +120,69 @@ fn inputs() -> Vec<Input> {
     (0..INPUTS).map(input).collect()
 }
 
-/// A row of the table.
-struct Row {
-    what: &'static str,
-    mode: Mode,
-    port: f64,
-    rust: f64,
-}
-
-impl Row {
-    fn print(&self) {
-        println!(
-            "| {} | {} | {:.0} | {:.0} | {:.3} |",
-            self.what,
-            self.mode.number(),
-            self.port,
-            self.rust,
-            self.port / self.rust
-        );
-    }
+/// Every row of the layout.
+fn layout_rows(effort: &Effort) -> Vec<Row> {
+    let inputs = inputs();
+    let modes = MODES.into_iter().rev();
+    modes
+        .flat_map(|mode| mode_rows(mode, &inputs, effort))
+        .collect()
 }
 
 /// Every row of a mode. Each port call is first seen to be accepted and to agree with the Rust.
-fn rows(mode: Mode, inputs: &[Input], effort: &Effort) -> Vec<Row> {
+fn mode_rows(mode: Mode, inputs: &[Input], effort: &Effort) -> [Row; 5] {
+    let row = |what, part, port, rust| Row {
+        operation: format!("{what}, mode {}", mode.number()),
+        part,
+        port,
+        rust,
+    };
     let role_map = time_role_map(mode, inputs, effort);
-    vec![
-        Row {
-            what: "role map; `FrameLayout::new` and `.roles(phase)`, to bytes",
-            mode,
-            port: role_map,
-            rust: time(effort, |i| {
+    [
+        row(
+            "role map",
+            "`FrameLayout::new` and `.roles(phase)`, to bytes",
+            role_map,
+            time(effort, |i| {
                 let input = black_box(&inputs[i % INPUTS]);
                 let layout = FrameLayout::new(black_box(mode), input.kinds);
                 black_box(answers::roles(&layout, usize::from(input.phase)));
             }),
-        },
-        Row {
-            what: "role map; `.roles(phase)` alone, of a layout already made, not to bytes",
-            mode,
-            port: role_map,
-            rust: time_roles_alone(mode, inputs, effort),
-        },
-        Row {
-            what: "data list; `FrameLayout::new` and a copy of `data[phase]`",
-            mode,
-            port: time_data_list(mode, inputs, effort),
-            rust: time(effort, |i| {
+        ),
+        row(
+            "role map",
+            "`.roles(phase)` alone, of a layout already made, not to bytes",
+            role_map,
+            time_roles_alone(mode, inputs, effort),
+        ),
+        row(
+            "data list",
+            "`FrameLayout::new` and a copy of `data[phase]`",
+            time_data_list(mode, inputs, effort),
+            time(effort, |i| {
                 let input = black_box(&inputs[i % INPUTS]);
                 let layout = FrameLayout::new(black_box(mode), input.kinds);
                 black_box(layout.data[usize::from(input.phase)].clone());
             }),
-        },
-        Row {
-            what: "continual list; `FrameLayout::new` and `continual_list`",
-            mode,
-            port: time_continual_list(mode, inputs, effort),
-            rust: time(effort, |i| {
+        ),
+        row(
+            "continual list",
+            "`FrameLayout::new` and `continual_list`",
+            time_continual_list(mode, inputs, effort),
+            time(effort, |i| {
                 let input = black_box(&inputs[i % INPUTS]);
                 let layout = FrameLayout::new(black_box(mode), input.kinds);
                 black_box(rx::continual_list(&layout));
             }),
-        },
-        Row {
-            what: "sign map; 13 × `segment_w` and `edge_w`",
-            mode,
-            port: time_sign_map(mode, effort),
-            rust: time(effort, |_| {
+        ),
+        row(
+            "sign map",
+            "13 × `segment_w` and `edge_w`",
+            time_sign_map(mode, effort),
+            time(effort, |_| {
                 black_box(answers::signs(black_box(mode)));
             }),
-        },
+        ),
     ]
 }
 
@@ -344,30 +347,6 @@ fn short_subnormals() -> Vec<f64> {
     (0..FLOATS).map(number).collect()
 }
 
-/// A row of the table of floats.
-struct FloatRow {
-    what: String,
-    port: f64,
-    sqrt: f64,
-    hypot: Option<f64>,
-}
-
-impl FloatRow {
-    fn print(&self) {
-        let hypot = match self.hypot {
-            Some(time) => format!("{time:.2}"),
-            None => "-".to_string(),
-        };
-        println!(
-            "| {} | {:.2} | {:.2} | {hypot} | {:.1} |",
-            self.what,
-            self.port,
-            self.sqrt,
-            self.port / self.sqrt
-        );
-    }
-}
-
 /// Nanoseconds for a value. The function gives bits; those of all results are put together, so that
 /// each is needed.
 fn time_each<I: Copy>(inputs: &[I], effort: &Effort, function: impl Fn(I) -> u64) -> f64 {
@@ -385,59 +364,73 @@ fn agree<I: Copy + Debug>(inputs: &[I], port: impl Fn(I) -> u64, rust: impl Fn(I
     }
 }
 
-fn root_row(what: &str, inputs: &[f64], effort: &Effort) -> FloatRow {
+fn root_row(what: &str, inputs: &[f64], effort: &Effort) -> Row {
     let port = |x| ffi::root(x).to_bits();
     let sqrt = |x| rust::root(x).to_bits();
     agree(inputs, port, sqrt);
-    FloatRow {
-        what: format!("root, {what}"),
+    Row {
+        operation: format!("root, {what}"),
+        part: "`sqrt`",
         port: time_each(inputs, effort, port),
-        sqrt: time_each(inputs, effort, sqrt),
-        hypot: None,
+        rust: time_each(inputs, effort, sqrt),
     }
 }
 
-fn narrow_row(what: &str, inputs: &[f64], effort: &Effort) -> FloatRow {
+fn narrow_row(what: &str, inputs: &[f64], effort: &Effort) -> Row {
     let port = |x| u64::from(ffi::narrow(x).to_bits());
     let cast = |x| u64::from(rust::narrow(x).to_bits());
     agree(inputs, port, cast);
-    FloatRow {
-        what: format!("narrow (beside it `as f32`, no sqrt), {what}"),
+    Row {
+        operation: format!("narrow, {what}"),
+        part: "`as f32`",
         port: time_each(inputs, effort, port),
-        sqrt: time_each(inputs, effort, cast),
-        hypot: None,
+        rust: time_each(inputs, effort, cast),
     }
 }
 
-fn norm32_row(what: &str, inputs: &[C32], effort: &Effort) -> FloatRow {
+/// The rows of a norm, which is timed once.
+fn norm_rows(operation: String, port: f64, sqrt: f64, hypot: f64) -> [Row; 2] {
+    let row = |part, rust| Row {
+        operation: operation.clone(),
+        part,
+        port,
+        rust,
+    };
+    [
+        row("`sqrt`, the norm of the comparison", sqrt),
+        row("`hypot`", hypot),
+    ]
+}
+
+fn norm32_rows(what: &str, inputs: &[C32], effort: &Effort) -> [Row; 2] {
     let port = |x: C32| u64::from(ffi::norm32(x.re, x.im).to_bits());
     let sqrt = |x: C32| u64::from(rust::norm32(x.re, x.im).to_bits());
     let hypot = |x: C32| u64::from(rust::hypot32(x.re, x.im).to_bits());
     agree(inputs, port, sqrt);
-    FloatRow {
-        what: format!("norm32, {what}"),
-        port: time_each(inputs, effort, port),
-        sqrt: time_each(inputs, effort, sqrt),
-        hypot: Some(time_each(inputs, effort, hypot)),
-    }
+    norm_rows(
+        format!("norm32, {what}"),
+        time_each(inputs, effort, port),
+        time_each(inputs, effort, sqrt),
+        time_each(inputs, effort, hypot),
+    )
 }
 
-fn norm64_row(what: &str, inputs: &[C64], effort: &Effort) -> FloatRow {
+fn norm64_rows(what: &str, inputs: &[C64], effort: &Effort) -> [Row; 2] {
     let port = |x: C64| ffi::norm64(x.re, x.im).to_bits();
     let sqrt = |x: C64| rust::norm64(x.re, x.im).to_bits();
     let hypot = |x: C64| rust::hypot64(x.re, x.im).to_bits();
     agree(inputs, port, sqrt);
-    FloatRow {
-        what: format!("norm64, {what}"),
-        port: time_each(inputs, effort, port),
-        sqrt: time_each(inputs, effort, sqrt),
-        hypot: Some(time_each(inputs, effort, hypot)),
-    }
+    norm_rows(
+        format!("norm64, {what}"),
+        time_each(inputs, effort, port),
+        time_each(inputs, effort, sqrt),
+        time_each(inputs, effort, hypot),
+    )
 }
 
 /// Every row of floats. Acquisition has whole parts; of these the root is given sums of two squares,
 /// and narrowing their roots.
-fn float_rows(effort: &Effort) -> Vec<FloatRow> {
+fn float_rows(effort: &Effort) -> Vec<Row> {
     let mut rows = Vec::new();
     for (limit, what) in [
         (1 << 15, "whole parts up to 2^15"),
@@ -448,15 +441,15 @@ fn float_rows(effort: &Effort) -> Vec<FloatRow> {
         let norms: Vec<f64> = pairs.iter().map(|x| x.norm()).collect();
         let short = |x: &C64| C32::new(x.re as f32, x.im as f32);
         let short_pairs: Vec<C32> = pairs.iter().map(short).collect();
-        rows.push(norm32_row(what, &short_pairs, effort));
-        rows.push(norm64_row(what, &pairs, effort));
+        rows.extend(norm32_rows(what, &short_pairs, effort));
+        rows.extend(norm64_rows(what, &pairs, effort));
         rows.push(root_row(what, &squares, effort));
         rows.push(narrow_row(what, &norms, effort));
     }
     let (any, numbers) = ("any finite bits", finite_numbers(FLOATS));
     let sizes: Vec<f64> = numbers.iter().map(|x| x.abs()).collect();
-    rows.push(norm32_row(any, &finite_pairs_32(), effort));
-    rows.push(norm64_row(any, &finite_pairs(), effort));
+    rows.extend(norm32_rows(any, &finite_pairs_32(), effort));
+    rows.extend(norm64_rows(any, &finite_pairs(), effort));
     rows.push(root_row("any finite bits above zero", &sizes, effort));
     rows.push(root_row("subnormals", &subnormals(), effort));
     let what = "subnormals of any number of digits";
@@ -511,42 +504,14 @@ fn days_in_month(year: u64, month: u64) -> u64 {
     }
 }
 
-fn print_layout(effort: &Effort) {
-    let inputs = inputs();
-    println!(
-        "| operation; the Rust's part | mode | port, ns a call | Rust, ns a call | port / Rust |"
-    );
-    println!("|---|---:|---:|---:|---:|");
-    for mode in MODES.into_iter().rev() {
-        for row in rows(mode, &inputs, effort) {
-            row.print();
-        }
-    }
-}
-
-fn print_floats(effort: &Effort) {
-    println!(
-        "| function | port, ns a call | Rust's sqrt, ns a call | Rust's hypot, ns a call | port / sqrt |"
-    );
-    println!("|---|---:|---:|---:|---:|");
-    for row in float_rows(effort) {
-        row.print();
-    }
-}
-
 fn main() {
     let options = options();
-    let tables: [fn(&Effort); 4] = [
-        print_layout,
-        print_floats,
-        bench_acquire::print_table,
-        bench_grid::print_table,
-    ];
-    println!("{}, {}", processor(), date());
-    for (name, print) in TABLES.into_iter().zip(tables) {
+    println!("{}, {}\n\n{HEAD}", processor(), date());
+    for (name, rows) in PARTS {
         if options.wants(name) {
-            println!();
-            print(&options.effort);
+            for row in rows(&options.effort) {
+                println!("{row}");
+            }
         }
     }
 }
