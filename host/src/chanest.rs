@@ -25,14 +25,23 @@ pub fn grid_length(mode: Mode) -> usize {
 /// ```
 /// use sillurwy::chanest::estimate_grid;
 /// use sillurwy::params::{Mode, Phase, SegmentKind};
+/// use sillurwy::prbs::sign_map;
 /// use sillurwy::Refusal;
 ///
-/// let kinds = [SegmentKind::Differential; 13];
-/// let spectra: Vec<f32> = [1.0, 0.0].repeat(3 * 1405);
-/// // No segment is coherent, so nothing is estimated.
-/// let grid = estimate_grid(Mode::M1, Phase::P0, &kinds, &spectra, 1, 4)?;
-/// assert_eq!(grid, vec![0.0; 940]);
-/// let refused = estimate_grid(Mode::M1, Phase::P0, &kinds, &spectra, 3, 4);
+/// // Three spectra in which every carrier is its pilot, through a channel of 2i.
+/// let pilot = |sign: &u8| if *sign == 0 { 4.0 / 3.0 } else { -4.0 / 3.0 };
+/// let signs = sign_map(Mode::M1)?;
+/// let spectrum: Vec<f32> = signs.iter().flat_map(|s| [0.0, 2.0 * pilot(s)]).collect();
+/// let spectra = spectrum.repeat(3);
+///
+/// // Segment 11 has the lowest place. It alone is coherent, 36 points, and the 37th closes it.
+/// let mut kinds = [SegmentKind::Differential; 13];
+/// kinds[11] = SegmentKind::Coherent;
+/// let grid = estimate_grid(Mode::M1, Phase::P0, &kinds, &spectra, 1, 1)?;
+/// assert_eq!(grid[..4], [0.0, 2.0, 0.0, 2.0]);
+/// assert_eq!(grid[2 * 36..2 * 37 + 2], [0.0, 2.0, 0.0, 0.0]);
+///
+/// let refused = estimate_grid(Mode::M1, Phase::P0, &kinds, &spectra, 3, 1);
 /// assert_eq!(refused, Err(Refusal::BadIndex));
 /// # Ok::<(), Refusal>(())
 /// ```
