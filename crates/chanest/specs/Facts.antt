@@ -3,12 +3,13 @@
 -- Assumes nothing.
 use Prim.Native.Nat.{ℕ, _+_, _-_, _*_, _/_, _%_, _≤_, _<_}
 use mathlib.Core.Bool.{Bool, true, false, cond, _&&_, _||_}
-use mathlib.Core.List.{List}
+use mathlib.Core.List.{List, []}
 use mathlib.Core.Path.{_≡_, refl, sym, ap, _∙_}
 use native.Mathlib.Omega.{arith}
 use native.Mathlib.Decide.{decLt}
 use borrow.Author.Tests.{eqb-true, ltb-true, eq-eqb, ne-eqb, lt-ltb, le-ltb}
 use lib.Dec.{eqb, ltb, lit<}
+use lib.IntN.{ℤ}
 use lib.ListN.{getD, length}
 use lib.Ieee.{Float}
 use Rattle.lists.specs.Tests.{agree, both-left, both-right}
@@ -16,20 +17,23 @@ use Rattle.lists.specs.Refusals.{passed}
 use Rattle.lists.specs.Select.{length-upTo}
 use Rattle.params.specs.declared.Mode.{Mode}
 use Rattle.params.specs.declared.Mode.the-variants.{M1, M2, M3}
+use Rattle.params.specs.declared.ModeNumber.{ModeNumber}
 use Rattle.params.specs.declared.ModeNumber.the-variants.{Known, Unknown}
 use Rattle.params.specs.declared.SegmentKind.the-variants.{Coherent, Differential}
-use Rattle.params.specs.Params.{carriersPerSegment}
+use Rattle.params.specs.Params.{carriersPerSegment, totalCarriers}
 use Rattle.ofdm.specs.Band.{segmentAt}
 use Rattle.ofdm.specs.Laws.{segment-below}
 use Rattle.complex.specs.Complex.{Pair}
-use Rattle.spectra.specs.Spectra.{pairAt}
+use Rattle.spectra.specs.Spectra.{pairAt, spectraIn}
 use Rattle.spectra.specs.Flat.{length-flat, pair-flat, flat-own}
 use Rattle.frame.specs.declared.CarrierRole.the-variants.{Sp, Cp, EdgeCp}
 use Rattle.frame.specs.Operations.{areKinds}
 use Rattle.frame.specs.Roles.{OfdmSegment, roleByte, placeRole, bandRoles, wideSegment, wide}
 use Rattle.frame.specs.Rules.{segmentIn}
 use Rattle.frame.specs.OneRole.{map-says}
-use Rattle.chanest.specs.Grid.{segmentPoints, gridPoints, coherentAt, isScattered, isClosing, backOf, scatteredAt, continualAt, gridPoint, gridOf, atLeastOne, grid, gridCode, gridLeaves}
+use Rattle.chanest.specs.Line.{lineAtZero}
+use Rattle.chanest.specs.Window.{inWindow, carrierIn, pointsIn, estimateOf}
+use Rattle.chanest.specs.Grid.{estimateAt, windowCode, segmentPoints, gridPoints, coherentAt, isScattered, isClosing, backOf, scatteredAt, continualAt, gridPoint, gridOf, atLeastOne, grid, gridCode, gridLeaves}
 use Rattle.chanest.specs.Codes.{accepted}
 
 no-closing : (a b c : Bool) → c ≡ false → (a && (b && c)) ≡ false
@@ -118,6 +122,19 @@ module _ (m : Mode) (phase : ℕ) (kinds : List ℕ) (xs : List Float) (t w : �
 pub no-mode : (phase : ℕ) (kinds : List ℕ) (xs : List Float) (t w : ℕ) (old : List Float) → gridLeaves Unknown phase kinds xs t w old ≡ old
 unfolding gridLeaves
 no-mode phase kinds xs t w old = refl
+
+-- a time window of 0 counts as 1
+pub window-of-0 : (mode : ModeNumber) (phase : ℕ) (kinds : List ℕ) (xs : List Float) (t : ℕ) (old : List Float)
+    → gridLeaves mode phase kinds xs t 0 old ≡ gridLeaves mode phase kinds xs t 1 old
+unfolding gridLeaves gridCode windowCode
+window-of-0 Unknown phase kinds xs t old = refl
+window-of-0 (Known m) phase kinds xs t old = refl
+
+-- where no spectrum of the window has a carrier's pilot, the carrier is taken as the current spectrum has it, sign and all
+pub raw-taken : (m : Mode) (xs : List Float) (t k : ℕ) (ds : List ℤ) → inWindow (spectraIn (totalCarriers m) (length xs)) t ds ≡ []
+    → estimateAt m xs t k ds ≡ carrierIn (totalCarriers m) xs k t
+unfolding estimateAt estimateOf pointsIn lineAtZero
+raw-taken m xs t k ds e = rw e
 
 -- what pilots give depends on nothing that was lent
 pub same-written : (m : Mode) (phase : ℕ) (kinds : List ℕ) (xs : List Float) (t w : ℕ) (old other : List Float) (i : ℕ) → i < gridPoints m
