@@ -228,8 +228,9 @@ pub fn narrow(x: f64) -> f32
     f32::from_bits(0x8000_0000 + narrow_bits(b - 0x8000_0000_0000_0000))
 }
 
-// The leading 24 digits of about the root of the number whose bits are b. Three steps of Newton for a
-// multiple of 1 / root, from half the exponent; the constants make the last answer the root itself.
+// The leading 24 digits of about the root of the number whose bits are b. Three steps of Goldschmidt,
+// which lead multiples of the root (s) and of 1 / root (r) on together, from half the exponent; the
+// constants make the last answer the root itself.
 // Nothing is promised of the guess: `is_near` tells whether it is good.
 fn near_root(b: u64) -> u64
     requires { ⌜ b < 5760103923406864384 ⌝ }
@@ -237,10 +238,14 @@ fn near_root(b: u64) -> u64
 {
     let x = f64::from_bits(b);
     let r0 = f64::from_bits(0x5fdf_3d58_0000_0000 - b / 2);
-    let r1 = 1.54 * r0 - x * r0 * (r0 * r0);
-    let r2 = 1.62009 * r1 - x * r1 * (r1 * r1);
-    let s = x * r2;
-    let c = s * (1.8898815748423097 - s * r2);
+    let s0 = x * r0;
+    let e0 = 1.54 - s0 * r0;
+    let s1 = s0 * e0;
+    let r1 = r0 * e0;
+    let e1 = 1.62009 - s1 * r1;
+    let s2 = s1 * e1;
+    let r2 = r1 * e1;
+    let c = s2 * (1.8898815748423097 - s2 * r2);
     if c != c {
         return 0x80_0000;
     }
