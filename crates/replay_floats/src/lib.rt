@@ -1,8 +1,10 @@
 // What the replays of acquisition and of the grid share: they read spectra and samples that are stored
 // in a byte each, lend room that is 7 everywhere, and compare the bits of floats.
 ghost use Prim.Native.Nat.{_+_, _*_, _≤_};
+ghost use mathlib.Core.Bool.{true};
 ghost use mathlib.Core.Path.{_≡_};
 ghost use lib.ListN.{length};
+ghost use Rattle.replay_floats.specs.Bits.{bits32, bits64, Sevens};
 use replay::Tally;
 
 // Room for the most parts of spectra or samples that a record has, as they are stored, and as floats.
@@ -29,19 +31,25 @@ pub fn lent_room() -> [f32; 32259]
 // The bits of 7.
 const SEVEN: u64 = 0x40e0_0000;
 
-pub fn wide(number: u32) -> u64 {
+pub fn wide(number: u32) -> u64
+    ensures { λ r. ⌜ r ≡ number ⌝ }
+{
     number as u64
 }
 
 // The bits of a float; every NaN has the same ones.
-pub fn bits_32(x: f32) -> u64 {
+pub fn bits_32(x: f32) -> u64
+    ensures { λ r. ⌜ r ≡ bits32 x ⌝ }
+{
     if x != x {
         return 0x7fc0_0000;
     }
     wide(f32::to_bits(x))
 }
 
-pub fn bits_64(x: f64) -> u64 {
+pub fn bits_64(x: f64) -> u64
+    ensures { λ r. ⌜ r ≡ bits64 x ⌝ }
+{
     if x != x {
         return 0x7ff8_0000_0000_0000;
     }
@@ -55,7 +63,9 @@ pub fn size_at(head: &[u8], at: usize) -> usize
     replay::number_at(head, at) as usize
 }
 
-pub fn short_size(byte: u8) -> usize {
+pub fn short_size(byte: u8) -> usize
+    ensures { λ r. ⌜ r ≡ byte ⌝ }
+{
     byte as usize
 }
 
@@ -180,7 +190,9 @@ pub fn check_floats(got: &[f32], n: usize, tally: Tally) -> Tally {
 }
 
 // Whether every float is the 7 that was there before.
-pub fn are_left(floats: &[f32]) -> bool {
+pub fn are_left(floats: &[f32]) -> bool
+    ensures { λ r. ⌜ (r ≡ true → Sevens (length (now (floats .entry))) (now (floats .entry))) ⌝ }
+{
     let mut i: usize = 0;
     while i < floats.len() {
         if bits_32(floats[i]) != SEVEN {

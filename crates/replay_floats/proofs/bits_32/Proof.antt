@@ -1,12 +1,13 @@
--- `replay_floats::bits_32` is safe: what is its own equal is no NaN.
+-- `replay_floats::bits_32` meets its contract: what is its own equal is no NaN.
 -- Assumes nothing.
-use Rattle.replay_floats.proofs.Floats.{no-nan}
+use mathlib.Core.Path.{sym, _∙_}
+use Rattle.ieee.specs.Order.{no-nan, ne-self}
 use borrow.Author.Needs.{needs}
 use Rattle.replay_floats.proofs.bits_32.Statement.{statement}
 use Rattle.replay_floats.proofs.bits_32.Tie as tie
 
 returns : tie.Need-returns
-returns c = search needs
+returns c = rw (sym (ne-self (c .before .args .x)) ∙ c .if1 .taken)
 
 float-to-bits-wide : tie.Need-float-to-bits-wide
 float-to-bits-wide c = no-nan (c .before .args .x) (c .if1 .left)
@@ -15,7 +16,7 @@ wide-requires : tie.Need-wide-requires
 wide-requires c κs = search needs
 
 returns-2 : tie.Need-returns-2
-returns-2 c = search needs
+returns-2 c = rw (sym (ne-self (c .before .before .args .x)) ∙ c .before .if1 .left) (c .wide .ensures)
 
 pub bits-32-spec : {M : Type 1} → statement M
 bits-32-spec = tie.close (tie.spec returns float-to-bits-wide wide-requires returns-2)
