@@ -96,6 +96,10 @@ pub conjugate-size : (f : Format) (x : Pair) → squaredSize f (conjugate x) ≡
 conjugate-size f x = ap (λ (z : Float). add f (mul f (x .re) (x .re)) z) (times-neg-neg f (x .im) (x .im))
 
 -- ---- so the norms are the same, bit for bit, wherever the squared sizes are
+pub norm32-is : (x : Pair) → norm32 x ≡ narrowOf (rootOf (squaredSize binary64 x))
+unfolding norm32 norm64
+norm32-is x = refl
+
 pub norm64-same : (x y : Pair) → squaredSize binary64 x ≡ squaredSize binary64 y → norm64 x ≡ norm64 y
 unfolding norm64
 norm64-same x y h = ap rootOf h

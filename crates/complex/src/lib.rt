@@ -81,10 +81,10 @@ impl C32 {
         }
     }
 
-    // Squares and sum in f64, where they neither overflow nor round to zero. The tests for NaN take
-    // less time than `widen`, which keeps it.
-    pub fn norm(self) -> f32
-        ensures { λ r. ⌜ r ≡ norm32 (of32 self) ⌝ }
+    // The squared size in f64, where squares and sum neither overflow nor round to zero. The tests for
+    // NaN take less time than `widen`, which keeps it.
+    pub fn wide_norm_sqr(self) -> f64
+        ensures { λ r. ⌜ r ≡ squaredSize binary64 (of32 self) ⌝ }
     {
         if self.re != self.re {
             return 0.0 / 0.0;
@@ -93,7 +93,13 @@ impl C32 {
             return 0.0 / 0.0;
         }
         let x = C64::new(self.re as f64, self.im as f64);
-        ieee::narrow_root(x.norm_sqr())
+        x.norm_sqr()
+    }
+
+    pub fn norm(self) -> f32
+        ensures { λ r. ⌜ r ≡ norm32 (of32 self) ⌝ }
+    {
+        ieee::narrow_root(self.wide_norm_sqr())
     }
 
     // The same numbers as f64.

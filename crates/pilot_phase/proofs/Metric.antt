@@ -65,7 +65,7 @@ module _ {mode : Mode} {kinds : List ℕ} {y : List Float} {phase c : ℕ} where
     pub walkable : {signs : List ℕ} → phase < 4 → Spectrum mode (length y) signs → place < 13 → Walkable (place * c + 3 * phase) (c / 12) (length y) (length signs)
     walkable {signs} l p h =
         let size : length signs ≡ totalCarriers mode = ap length (p .signed) ∙ signs-length mode in
-        record { inside = omega (arith, ends h); floats = omega (arith, p .floats); small = omega (arith, ends h) }
+        record { some = omega (arith, w .carriers, sized mode .carriers-low); inside = omega (arith, ends h); floats = omega (arith, p .floats); small = omega (arith, ends h) }
 
     more : place < 13 → before mode kinds phase (place + 1) ≡ before mode kinds phase place ++ segmentPilots mode kinds phase (segmentAt place)
     more h = joined-more (segmentPilots mode kinds phase) order place h

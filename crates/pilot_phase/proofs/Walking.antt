@@ -12,14 +12,14 @@ use lib.ListN.{getD}
 use lib.Ieee.{Float, Format, binary32, add}
 use Rattle.ieee.specs.Sums.{total}
 use Rattle.params.specs.declared.Mode.{Mode}
-use Rattle.complex.specs.declared.C32.{C32}
 use Rattle.complex.specs.Complex.{Pair, of32, scaled, plus}
 use Rattle.complex.specs.Totals.{totals}
 use Rattle.spectra.specs.Spectra.{pairAt}
 use Rattle.prbs.specs.Signs.{bandSigns, pilotValue}
+use Rattle.pilot_phase.specs.declared.Pilot.{Pilot}
 use Rattle.pilot_phase.specs.declared.Run.{Run}
 use Rattle.pilot_phase.specs.PilotPhase.{twelveApart, unsigned, pilotProduct, pilotEnergy, productSum, energySum}
-use Rattle.pilot_phase.specs.Inner.{twelfths, Parted, Joined, Walked, Walks}
+use Rattle.pilot_phase.specs.Inner.{twelfths, Parted, PilotAt, Joined, Walked, Walks}
 
 -- ---- one entry more behind the last
 grown : (t : Bool) (x : ℕ) (us vs : List ℕ) → cond t (x ∷ (us ++ vs)) (us ++ vs) ≡ cond t (x ∷ us) us ++ vs
@@ -101,22 +101,22 @@ module _ {mode : Mode} {y : ℕ → Pair} {ks : List ℕ} {next : ℕ} {s : Run}
 
 -- ---- carriers 12 apart, one after another
 -- the value that the code takes of a carrier
-value-is : (mode : Mode) (y : List Float) (signs : List ℕ) (k : ℕ) (x p v : C32) → signs ≡ bandSigns mode → of32 x ≡ pairAt y k
-    → of32 p ≡ pilotValue (getD signs k 0) → of32 v ≡ scaled binary32 (of32 x) (p .re) → of32 v ≡ unsigned mode (pairAt y) k
+value-is : (mode : Mode) (y : List Float) (signs : List ℕ) (k : ℕ) (v : Pair) → signs ≡ bandSigns mode
+    → v ≡ scaled binary32 (pairAt y k) (pilotValue (getD signs k 0) .re) → v ≡ unsigned mode (pairAt y) k
 unfolding unsigned
-value-is mode y signs k x p v e f g h = h ∙ rw (f, ap (λ (q : Pair). q .re) g, e)
+value-is mode y signs k v e h = h ∙ rw e
 
 module _ {s : Run} {y : List Float} {signs : List ℕ} {first : ℕ} where
   pub none-walked : Walks s y signs first 0 s
   none-walked = record { walked = λ mode e ks w. let z : first + 12 * 0 ≡ first = omega arith in rw (append-nil ks, z) w }
 
-  pub one-walked : {i k : ℕ} {t r : Run} {x p v : C32} → k ≡ first + 12 * i → Walks s y signs first i t → of32 x ≡ pairAt y k
-      → of32 p ≡ pilotValue (getD signs k 0) → of32 v ≡ scaled binary32 (of32 x) (p .re) → Joined t (of32 v) r → Walks s y signs first (i + 1) r
-  one-walked {i} {k} {t} {r} {x} {p} {v} at w f g h j =
+  pub one-walked : {i : ℕ} {t r : Run} {p : Pilot} → Walks s y signs first i t → PilotAt y signs (first + 12 * i) p → Joined t (of32 (p .value)) r
+      → Walks s y signs first (i + 1) r
+  one-walked {i} {t} {r} {p} w a j =
       record {
         walked = λ mode e ks b.
             let next : first + 12 * (i + 1) ≡ first + 12 * i + 12 = omega arith in
             let more : ks ++ twelfths first (i + 1) ≡ (ks ++ twelfths first i) ++ ((first + 12 * i) ∷ []) = rw add-one (sym (append-assoc ks (twelfths first i) ((first + 12 * i) ∷ []))) in
-            let value : of32 v ≡ unsigned mode (pairAt y) (first + 12 * i) = rw at at (value-is mode y signs k x p v e f g h) in
+            let value : of32 (p .value) ≡ unsigned mode (pairAt y) (first + 12 * i) = value-is mode y signs (first + 12 * i) (of32 (p .value)) e (a .value) in
             rw (next, more) (walk-join (w .walked mode e ks b) (rw value at j));
       }

@@ -5,16 +5,17 @@ use mathlib.Core.Bool.{Bool, true, false, cond, not}
 use mathlib.Core.List.{List, [], _∷_, _++_}
 use mathlib.Core.Path.{_≡_}
 use lib.Dec.{eqb}
-use lib.ListN.{length}
-use lib.Ieee.{Float, binary32, add, mul}
+use lib.ListN.{getD, length}
+use lib.Ieee.{Float, binary32, binary64, add, mul}
 use Rattle.lists.specs.Lists.{upTo}
 use Rattle.params.specs.declared.Mode.{Mode}
 use Rattle.params.specs.Params.{totalCarriers}
-use Rattle.complex.specs.Complex.{Pair, of32, product, conjugate, plus, norm32}
+use Rattle.complex.specs.Complex.{Pair, of32, product, conjugate, plus, scaled, squaredSize, norm32}
 use Rattle.spectra.specs.Spectra.{pairAt, spectraIn}
-use Rattle.prbs.specs.Signs.{bandSigns}
+use Rattle.prbs.specs.Signs.{bandSigns, pilotValue}
 use Rattle.pilot_phase.specs.declared.PilotPhase.the-variants.{NoScatteredPilots}
 use Rattle.pilot_phase.specs.declared.PilotAnswer.{PilotAnswer}
+use Rattle.pilot_phase.specs.declared.Pilot.{Pilot}
 use Rattle.pilot_phase.specs.declared.Run.{Run}
 use Rattle.pilot_phase.specs.PilotPhase.{pilots, twelveApart, unsigned, productSum, energySum, wonBy}
 
@@ -28,6 +29,15 @@ pub record Parted (s r : Run) : Type 0 where
   pub joined : r .joined ≡ false
   pub sum : r .sum ≡ s .sum
   pub energy : r .energy ≡ s .energy
+
+-- a pilot has its squared size, in f64
+pub record Sized (p : Pilot) : Type 0 where
+  pub square : p .square ≡ squaredSize binary64 (of32 (p .value))
+
+-- the pilot at carrier k, by the signs of the carriers
+pub record PilotAt (y : List Float) (signs : List ℕ) (k : ℕ) (p : Pilot) : Type 0 where
+  pub value : of32 (p .value) ≡ scaled binary32 (pairAt y k) (pilotValue (getD signs k 0) .re)
+  pub sized : Sized p
 
 -- the run s with a pilot v more
 pub record Joined (s : Run) (v : Pair) (r : Run) : Type 0 where
@@ -53,8 +63,9 @@ pub record Walked (mode : Mode) (y : ℕ → Pair) (ks : List ℕ) (next : ℕ) 
   pub kept : r .joined ≡ true → Kept mode y ks next r
   pub apart : r .joined ≡ false → (n : ℕ) → next ≤ n → twelveApart (ks ++ (n ∷ [])) ≡ twelveApart ks
 
--- count carriers from first on, 12 apart, lie within a spectrum of n floats with m signs: the last is below m
+-- count carriers from first on, at least one, 12 apart, lie within a spectrum of n floats with m signs: the last is below m
 pub record Walkable (first count n m : ℕ) : Type 0 where
+  pub some : 0 < count
   pub inside : first + 12 * count < m + 12
   pub floats : n ≡ 2 * m
   pub small : m ≤ 5617

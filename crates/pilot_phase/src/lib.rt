@@ -2,13 +2,13 @@
 // products of pilots 12 carriers apart, with their known signs taken off, add up coherently for the
 // right phase alone. Every spectrum votes.
 ghost use mathlib.Core.Path.{_≡_};
-ghost use Prim.Native.Nat.{_<_};
+ghost use Prim.Native.Nat.{_*_, _≤_, _<_};
 ghost use lib.ListN.{length};
 ghost use Rattle.params.specs.Params.{modeFrom};
 ghost use Rattle.complex.specs.Complex.{of32};
 ghost use Rattle.spectra.specs.Spectra.{pairAt};
 ghost use Rattle.pilot_phase.specs.PilotPhase.{phaseMetric, choiceOf, votes, countsOf, nextTo, PhaseDetected};
-ghost use Rattle.pilot_phase.specs.Inner.{Parted, Joined, Walkable, Walks, Spectrum, Votable, Won, somePilots, Nothing};
+ghost use Rattle.pilot_phase.specs.Inner.{Parted, Sized, PilotAt, Joined, Walkable, Walks, Spectrum, Votable, Won, somePilots, Nothing};
 use complex::C32;
 use frame::FrameLayout;
 use ofdm::BandPlace;
@@ -40,9 +40,15 @@ pub struct Run {
     pub energy: f32,
 }
 
+// A pilot with its sign taken off, and its squared size.
+pub struct Pilot {
+    pub value: C32,
+    pub square: f64,
+}
+
 impl Run {
     // The next pilot is not 12 further on.
-    pub fn apart(self) -> Run
+    fn apart(self) -> Run
         ensures { λ r. ⌜ Parted self r ⌝ }
     {
         let v = self.value;
@@ -57,10 +63,12 @@ impl Run {
     }
 
     // A pilot more.
-    pub fn join(self, v: C32) -> Run
-        ensures { λ r. ⌜ Joined self (of32 v) r ⌝ }
+    fn join(self, pilot: Pilot) -> Run
+        requires { ⌜ Sized pilot ⌝ }
+        ensures { λ r. ⌜ Joined self (of32 (pilot .value)) r ⌝ }
     {
-        let norm = v.norm();
+        let v = pilot.value;
+        let norm = ieee::narrow_root(pilot.square);
         let s = self.sum;
         if !self.joined {
             return Run {
@@ -84,22 +92,40 @@ impl Run {
     }
 }
 
-// The pilots of a coherent segment, of which `first` is the lowest: `count` of them, 12 apart.
+// The pilot at carrier k.
+fn pilot_at(y: &[f32], signs: &[u8], k: usize) -> Pilot
+    requires { ⌜ (k < length (now signs)) × (length (now y) ≡ 2 * length (now signs)) × (length (now signs) ≤ 5617) ⌝ }
+    ensures { λ r. ⌜ PilotAt (now (y .entry)) (now (signs .entry)) k r ⌝ }
+{
+    let x = spectra::pair_at(y, k);
+    let pilot = prbs::pilot_value(signs[k]);
+    let value = x.scale(pilot.re);
+    Pilot {
+        value: value,
+        square: value.wide_norm_sqr(),
+    }
+}
+
+// The pilots of a coherent segment, of which `first` is the lowest: `count` of them, 12 apart. Each is
+// read before the root of the one below it is taken: neither waits for the other, so the processor
+// works at both.
 fn walk_segment(start: Run, y: &[f32], signs: &[u8], first: usize, count: usize) -> Run
     requires { ⌜ Walkable first count (length (now y)) (length (now signs)) ⌝ }
     ensures { λ r. ⌜ Walks start (now (y .entry)) (now (signs .entry)) first count r ⌝ }
 {
     let mut run = start;
+    let mut pilot = pilot_at(y, signs, first);
     let mut k = first;
+    let last = count - 1;
     let mut i: usize = 0;
-    while i < count {
-        let x = spectra::pair_at(y, k);
-        let pilot = prbs::pilot_value(signs[k]);
-        run = run.join(x.scale(pilot.re));
+    while i < last {
         k += 12;
+        let next = pilot_at(y, signs, k);
+        run = run.join(pilot);
+        pilot = next;
         i += 1;
     }
-    run
+    run.join(pilot)
 }
 
 // How coherent the pilots of a phase are in the spectrum y.

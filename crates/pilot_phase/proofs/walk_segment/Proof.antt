@@ -1,42 +1,41 @@
--- `pilot_phase::walk_segment` meets its contract: each turn leads the run on over one carrier.
+-- `pilot_phase::walk_segment` meets its contract: i pilots are joined, and the next one is at hand.
 -- Assumes nothing.
-use Prim.Native.Nat.{_+_, _-_, _*_, _≤_}
+use Prim.Native.Nat.{_+_, _-_, _*_, _<_}
 use mathlib.Core.Path.{_≡_}
 use native.Mathlib.Omega.{arith}
-use borrow.Author.Needs.{needs}
 use lib.ListN.{length}
-use Rattle.pilot_phase.specs.Inner.{Walkable, Walks}
+use Rattle.pilot_phase.specs.Inner.{PilotAt, Walkable, Walks}
 use Rattle.pilot_phase.proofs.Walking.{none-walked, one-walked}
 use Rattle.pilot_phase.proofs.walk_segment.Statement.{statement}
 use Rattle.pilot_phase.proofs.walk_segment.Tie as tie
 
 abbrev Inv-loop : tie.InvT-loop
-Inv-loop y signs first count run₀ k₀ i₀ run k i =
-    Walkable first count (length y) (length signs) × (i ≤ count) × (k ≡ first + 12 * i) × Walks run₀ y signs first i run
+Inv-loop y signs first count run₀ pilot₀ k₀ last i₀ run pilot k i =
+    Walkable first count (length y) (length signs) × (i < count) × (k ≡ first + 12 * i) × PilotAt y signs (first + 12 * i) pilot × Walks run₀ y signs first i run
 
 abbrev μ-loop : tie.MeasureT-loop
-μ-loop y signs first count run₀ k₀ i₀ run k i = count - i
+μ-loop y signs first count run₀ pilot₀ k₀ last i₀ run pilot k i = count - i
+
+pilot-at-requires : tie.Need-pilot-at-requires Inv-loop μ-loop
+pilot-at-requires c κs = let p = c .before .before .pre in (omega (arith, p .some, p .inside), p .floats, p .small)
+
+sub-last : tie.Need-sub-last Inv-loop μ-loop
+sub-last c = omega (arith, c .before .before .before .pre .some)
 
 loop-holds : tie.Need-loop-holds Inv-loop μ-loop
-loop-holds c = (c .before .before .pre, omega arith, omega arith, none-walked)
-
-pair-at-requires : tie.Need-pair-at-requires Inv-loop μ-loop
-pair-at-requires c κs = let p = c .before .loop .inv .0 in omega (arith, p .inside, p .floats)
-
-shared-slice-read-pilot-value : tie.Need-shared-slice-read-pilot-value Inv-loop μ-loop
-shared-slice-read-pilot-value c = let p = c .before .before .before .loop .inv .0 in omega (arith, p .inside)
-
-pilot-value-requires : tie.Need-pilot-value-requires Inv-loop μ-loop
-pilot-value-requires c κs = search needs
-
-scale-requires : tie.Need-scale-requires Inv-loop μ-loop
-scale-requires c κs = search needs
-
-join-requires : tie.Need-join-requires Inv-loop μ-loop
-join-requires c κs = search needs
+loop-holds c =
+    let p = c .before .before .before .pre in
+    let z : c .before .before .before .args .first + 12 * 0 ≡ c .before .before .before .args .first = omega arith in
+    (p, p .some, omega arith, rw z (c .pilot-at .ensures), none-walked)
 
 add-k : tie.Need-add-k Inv-loop μ-loop
-add-k c = let p = c .before .before .before .before .before .before .loop .inv .0 in omega (arith, p .inside, p .small)
+add-k c = let p = c .before .loop .inv .0 in omega (arith, p .inside, p .small)
+
+pilot-at-requires-2 : tie.Need-pilot-at-requires-2 Inv-loop μ-loop
+pilot-at-requires-2 c κs = let p = c .before .loop .inv .0 in (omega (arith, p .inside), p .floats, p .small)
+
+join-requires : tie.Need-join-requires Inv-loop μ-loop
+join-requires c κs = c .before .before .loop .inv .3 .sized
 
 add-i : tie.Need-add-i Inv-loop μ-loop
 add-i c = omega arith
@@ -46,19 +45,19 @@ loop-less c = omega arith
 
 loop-again : tie.Need-loop-again Inv-loop μ-loop
 loop-again c =
-    let l = c .before .before .before .before .before .before in
-    let inv = l .loop .inv in (
-      inv .0,
-      omega arith,
-      omega arith,
-      one-walked (inv .2) (inv .3) (c .before .before .before .before .pair-at .ensures) (c .before .before .pilot-value .ensures) (c .before .scale .ensures) (c .join .ensures),
-    )
+    let l = c .before .before .before in
+    let first = l .before .before .before .before .args .first in
+    let at : l .loop .k + 12 ≡ first + 12 * (l .loop .i + 1) = omega (arith, l .loop .inv .2) in
+    (l .loop .inv .0, omega arith, at, rw at at (c .before .pilot-at2 .ensures), one-walked (l .loop .inv .4) (l .loop .inv .3) (c .join .ensures))
+
+join-requires-2 : tie.Need-join-requires-2 Inv-loop μ-loop
+join-requires-2 c κs = c .before .loop .inv .3 .sized
 
 returns : tie.Need-returns Inv-loop μ-loop
 returns c =
-    let inv = c .before .loop .inv in
-    let e : c .before .loop .i ≡ c .before .before .before .before .args .count = omega arith in
-    rw e at (inv .3)
+    let l = c .before .before in
+    let all : l .loop .i + 1 ≡ l .before .before .before .before .args .count = omega (arith, l .loop .inv .1) in
+    rw all at (one-walked (l .loop .inv .4) (l .loop .inv .3) (c .join2 .ensures))
 
 pub walk-segment-spec : {M : Type 1} → statement M
 walk-segment-spec =
@@ -66,14 +65,14 @@ walk-segment-spec =
     (tie.spec
     Inv-loop
     μ-loop
+    pilot-at-requires
+    sub-last
     loop-holds
-    pair-at-requires
-    shared-slice-read-pilot-value
-    pilot-value-requires
-    scale-requires
-    join-requires
     add-k
+    pilot-at-requires-2
+    join-requires
     add-i
     loop-less
     loop-again
+    join-requires-2
     returns)

@@ -1,21 +1,32 @@
 -- `pilot_phase::Run::join` meets its contract: it is the definition, call for call.
 -- Assumes nothing.
 use mathlib.Core.Bool.{true, false}
-use mathlib.Core.Path.{_≡_, refl, ap, _∙_}
+use mathlib.Core.Path.{_≡_, refl, sym, ap, _∙_}
 use borrow.Author.Tests.{not-true, not-false}
 use lib.Ieee.{Float, binary32, add, mul}
-use Rattle.complex.specs.Complex.{of32, product, plus}
+use Rattle.ieee.specs.Root.{rootOf}
+use Rattle.ieee.specs.Narrow.{narrowOf}
+use Rattle.complex.specs.Complex.{of32, product, plus, norm32}
+use Rattle.complex.specs.Turns.{norm32-is}
+use Rattle.pilot_phase.specs.declared.Pilot.{Pilot}
+use Rattle.pilot_phase.specs.Inner.{Sized}
 use borrow.Author.Needs.{needs}
 use Rattle.pilot_phase.proofs.Run.join.Statement.{statement}
 use Rattle.pilot_phase.proofs.Run.join.Tie as tie
 
-norm-requires : tie.Need-norm-requires
-norm-requires c κs = search needs
+-- the narrowed root of a pilot's squared size is its norm
+normed : {n : Float} (p : Pilot) → Sized p → n ≡ narrowOf (rootOf (p .square)) → n ≡ norm32 (of32 (p .value))
+normed p s e = e ∙ ap (λ (x : Float). narrowOf (rootOf x)) (s .square) ∙ sym (norm32-is (of32 (p .value)))
+
+narrow-root-requires : tie.Need-narrow-root-requires
+narrow-root-requires c κs = search needs
 
 returns : tie.Need-returns
 returns c =
-    let off : c .before .before .before .before .args .self .joined ≡ false = not-true _ (c .if1 .taken) in
-    record { joined = refl; value = refl; norm = c .before .before .before .norm .ensures; sum = rw off; energy = rw off }
+    let n = c .before .before .before in
+    let s = n .before .before in
+    let off : s .args .self .joined ≡ false = not-true _ (c .if1 .taken) in
+    record { joined = refl; value = refl; norm = normed (s .args .pilot) (s .pre) (n .narrow-root .ensures); sum = rw off; energy = rw off }
 
 conj-requires : tie.Need-conj-requires
 conj-requires c κs = search needs
@@ -31,17 +42,18 @@ returns-2 c =
     let m = c .before .before .before in
     let i = m .before .before .before in
     let n = i .before .before .before in
-    let s = n .before .args in
-    let on : s .self .joined ≡ true = not-false _ (i .if1 .left) in
-    let v = of32 (s .v) in
+    let s = n .before .before in
+    let on : s .args .self .joined ≡ true = not-false _ (i .if1 .left) in
+    let v = of32 (s .args .pilot .value) in
+    let size = normed (s .args .pilot) (s .pre) (n .narrow-root .ensures) in
     record {
       joined = refl;
       value = refl;
-      norm = n .norm .ensures;
-      sum = rw on (c .before .before .add .ensures ∙ ap (plus binary32 (of32 (s .self .sum))) (m .mul .ensures ∙ ap (product binary32 v) (m .before .conj .ensures)));
-      energy = rw on (ap (λ (z : Float). add binary32 (s .self .energy) (mul binary32 (s .self .norm) z)) (n .norm .ensures));
+      norm = size;
+      sum = rw on (c .before .before .add .ensures ∙ ap (plus binary32 (of32 (s .args .self .sum))) (m .mul .ensures ∙ ap (product binary32 v) (m .before .conj .ensures)));
+      energy = rw on (ap (λ (z : Float). add binary32 (s .args .self .energy) (mul binary32 (s .args .self .norm) z)) size);
     }
 
 pub join-spec : {M : Type 1} → statement M
 join-spec =
-    tie.close (tie.spec norm-requires returns conj-requires mul-requires add-requires returns-2)
+    tie.close (tie.spec narrow-root-requires returns conj-requires mul-requires add-requires returns-2)
