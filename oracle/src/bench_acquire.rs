@@ -55,11 +55,12 @@ fn row<P, R>(
     mut port: impl FnMut(usize) -> P,
     mut rust: impl FnMut(usize) -> R,
 ) -> Row {
+    let port = |i| drop(black_box(port(i)));
+    let rust = |i| drop(black_box(rust(i)));
     Row {
         operation,
         part,
-        port: time(effort, |i| drop(black_box(port(i)))),
-        rust: time(effort, |i| drop(black_box(rust(i)))),
+        times: time(effort, port, rust),
     }
 }
 

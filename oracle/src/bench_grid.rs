@@ -55,27 +55,26 @@ pub fn rows(effort: &Effort) -> Vec<Row> {
         assert!(right == Ok(grid.clone()));
     }
     let at = |i: usize| &captures[i % captures.len()];
-    let port = time(effort, |i| {
+    let mut port = |i| {
         port_grid(&kinds, at(i), &mut grid);
         black_box(&mut grid);
-    });
+    };
+    let what = of_spectra("grid", captures[0].spectra.len());
+    let row = |part, times| Row {
+        operation: format!("{what}, time window {W}"),
+        part,
+        times,
+    };
     let mut made = ChannelEstimator::new(&layout);
-    let already_made = time(effort, |i| {
+    let already_made = time(effort, &mut port, |i| {
         rust_grid(&mut made, at(i));
         black_box(&mut made);
     });
-    let making = time(effort, |i| {
+    let making = time(effort, &mut port, |i| {
         let mut estimator = ChannelEstimator::new(black_box(&layout));
         rust_grid(&mut estimator, at(i));
         black_box(estimator);
     });
-    let what = of_spectra("grid", captures[0].spectra.len());
-    let row = |part, rust| Row {
-        operation: format!("{what}, time window {W}"),
-        part,
-        port,
-        rust,
-    };
     vec![
         row("`estimate`, of an estimator already made", already_made),
         row("`ChannelEstimator::new` and `estimate`", making),

@@ -6,7 +6,7 @@ use std::time::{Duration, Instant};
 /// How much is measured.
 #[derive(Debug, Clone, Copy)]
 pub struct Effort {
-    /// Number of rounds, of which the median is taken.
+    /// Number of rounds of each, of which the median is taken.
     pub rounds: usize,
     /// How long a round takes at least.
     pub round: Duration,
@@ -14,14 +14,48 @@ pub struct Effort {
     pub calls: usize,
 }
 
-/// Nanoseconds per call: the median of the rounds. Each call is given its number.
-pub fn time(effort: &Effort, mut call: impl FnMut(usize)) -> f64 {
-    let calls = calls_in(effort, &mut call);
-    let mut rounds: Vec<f64> = (0..effort.rounds)
-        .map(|_| run(calls, &mut call).as_nanos() as f64 / calls as f64)
+/// Nanoseconds per call of the port and of the Rust.
+#[derive(Debug, Clone, Copy)]
+pub struct Times {
+    pub port: f64,
+    pub rust: f64,
+    /// The port's time divided by the Rust's.
+    pub ratio: f64,
+}
+
+impl Times {
+    /// The times of each of `parts` like parts of a call.
+    pub fn per(self, parts: usize) -> Self {
+        let parts = parts as f64;
+        Self {
+            port: self.port / parts,
+            rust: self.rust / parts,
+            ratio: self.ratio,
+        }
+    }
+}
+
+/// Times both in turn, a round of the one and then a round of the other, so that what else the machine
+/// does falls on both. A time is the median of the rounds; the ratio is the median of the ratios of the
+/// two rounds of a turn. Each call is given its number.
+pub fn time(effort: &Effort, mut port: impl FnMut(usize), mut rust: impl FnMut(usize)) -> Times {
+    let ports = calls_in(effort, &mut port);
+    let rusts = calls_in(effort, &mut rust);
+    let turns: Vec<(f64, f64)> = (0..effort.rounds)
+        .map(|_| (per_call(ports, &mut port), per_call(rusts, &mut rust)))
         .collect();
-    rounds.sort_by(f64::total_cmp);
-    rounds[rounds.len() / 2]
+    Times {
+        port: median(turns.iter().map(|(port, _)| *port)),
+        rust: median(turns.iter().map(|(_, rust)| *rust)),
+        ratio: median(turns.iter().map(|(port, rust)| port / rust)),
+    }
+}
+
+/// The one in the middle.
+fn median(numbers: impl Iterator<Item = f64>) -> f64 {
+    let mut numbers: Vec<f64> = numbers.collect();
+    numbers.sort_by(f64::total_cmp);
+    numbers[numbers.len() / 2]
 }
 
 /// How many calls fill a round. Finding it out also warms up.
@@ -39,6 +73,11 @@ fn run(calls: usize, call: &mut impl FnMut(usize)) -> Duration {
     start.elapsed()
 }
 
+/// Nanoseconds per call of a round of so many.
+fn per_call(calls: usize, call: &mut impl FnMut(usize)) -> f64 {
+    run(calls, call).as_nanos() as f64 / calls as f64
+}
+
 /// The head of the table.
 pub const HEAD: &str = "\
 | operation | the Rust's part | port, ns a call | Rust, ns a call | port / Rust |
@@ -51,17 +90,16 @@ pub struct Row {
     pub operation: String,
     /// What of the Rust is timed beside it.
     pub part: &'static str,
-    /// Nanoseconds a call of the port.
-    pub port: f64,
-    /// Nanoseconds a call of the Rust.
-    pub rust: f64,
+    /// How long both take.
+    pub times: Times,
 }
 
 impl Display for Row {
     fn fmt(&self, f: &mut Formatter) -> fmt::Result {
         let (operation, part) = (&self.operation, self.part);
-        let (port, rust) = (nanoseconds(self.port), nanoseconds(self.rust));
-        let ratio = ratio(self.port / self.rust);
+        let Times { port, rust, ratio } = self.times;
+        let (port, rust) = (nanoseconds(port), nanoseconds(rust));
+        let ratio = two_decimals(ratio);
         write!(f, "| {operation} | {part} | {port} | {rust} | {ratio} |")
     }
 }
@@ -79,7 +117,7 @@ fn nanoseconds(time: f64) -> String {
 }
 
 /// Two decimals, and three below 0.1.
-fn ratio(ratio: f64) -> String {
+fn two_decimals(ratio: f64) -> String {
     let decimals = if ratio < 0.1 { 3 } else { 2 };
     format!("{ratio:.decimals$}")
 }
@@ -128,11 +166,33 @@ mod tests {
 
     #[test]
     fn small_ratios_have_three_decimals() {
-        assert_eq!(ratio(0.0233), "0.023");
-        assert_eq!(ratio(0.0996), "0.100");
-        assert_eq!(ratio(0.1), "0.10");
-        assert_eq!(ratio(8.456), "8.46");
-        assert_eq!(ratio(12.0), "12.00");
+        assert_eq!(two_decimals(0.0233), "0.023");
+        assert_eq!(two_decimals(0.0996), "0.100");
+        assert_eq!(two_decimals(0.1), "0.10");
+        assert_eq!(two_decimals(8.456), "8.46");
+        assert_eq!(two_decimals(12.0), "12.00");
+    }
+
+    #[test]
+    fn medians_are_of_the_sorted_numbers() {
+        assert_eq!(median([3.0, 1.0, 2.0].into_iter()), 2.0);
+        assert_eq!(median([5.0, 1.0, 4.0, 9.0, 2.0].into_iter()), 4.0);
+    }
+
+    #[test]
+    fn both_sides_are_timed() {
+        let effort = Effort {
+            rounds: 3,
+            round: Duration::from_millis(1),
+            calls: 1,
+        };
+        let (mut ports, mut rusts) = (0, 0);
+        let times = time(&effort, |_| ports += 1, |_| rusts += 1);
+        assert!(times.port > 0.0 && times.rust > 0.0 && times.ratio > 0.0);
+        assert!(ports >= 4 && rusts >= 4);
+        let tenth = times.per(10);
+        assert_eq!(tenth.port * 10.0, times.port);
+        assert_eq!(tenth.ratio, times.ratio);
     }
 
     #[test]
@@ -140,8 +200,11 @@ mod tests {
         let row = Row {
             operation: "role map, mode 3".to_string(),
             part: "`.roles(phase)` alone",
-            port: 2452.0,
-            rust: 105_457.0,
+            times: Times {
+                port: 2452.0,
+                rust: 105_457.0,
+                ratio: 0.0233,
+            },
         };
         let line = "| role map, mode 3 | `.roles(phase)` alone | 2452 | 105,457 | 0.023 |";
         assert_eq!(row.to_string(), line);

@@ -1,5 +1,5 @@
-//! Times the proved port beside the Rust: same driver, same inputs, the median of several rounds. One
-//! table has the operations of the layout, the functions of floats, the operations of acquisition and
+//! Times the proved port beside the Rust: same driver, same inputs, rounds that take turns. One table
+//! has the operations of the layout, the functions of floats, the operations of acquisition and
 //! the grid.
 
 use oracle::answers;
@@ -13,7 +13,7 @@ use oracle::isdb::frame::FrameLayout;
 use oracle::isdb::params::{Mode, SEGMENTS};
 use oracle::isdb::rx;
 use oracle::rng::Rng;
-use oracle::timing::{Effort, HEAD, Row, time};
+use oracle::timing::{Effort, HEAD, Row, Times, time};
 use std::fmt::Debug;
 use std::fs;
 use std::hint::black_box;
@@ -129,64 +129,63 @@ fn layout_rows(effort: &Effort) -> Vec<Row> {
         .collect()
 }
 
-/// Every row of a mode. Each port call is first seen to be accepted and to agree with the Rust.
+/// Every row of a mode.
 fn mode_rows(mode: Mode, inputs: &[Input], effort: &Effort) -> [Row; 5] {
-    let row = |what, part, port, rust| Row {
+    let at = |i: usize| black_box(&inputs[i % INPUTS]);
+    let new = |i| FrameLayout::new(black_box(mode), at(i).kinds);
+    let made: Vec<FrameLayout> = (0..INPUTS).map(new).collect();
+    let row = |what, part, times| Row {
         operation: format!("{what}, mode {}", mode.number()),
         part,
-        port,
-        rust,
+        times,
     };
-    let role_map = time_role_map(mode, inputs, effort);
     [
         row(
             "role map",
             "`FrameLayout::new` and `.roles(phase)`, to bytes",
-            role_map,
-            time(effort, |i| {
-                let input = black_box(&inputs[i % INPUTS]);
-                let layout = FrameLayout::new(black_box(mode), input.kinds);
-                black_box(answers::roles(&layout, usize::from(input.phase)));
+            beside_role_map(mode, inputs, effort, |i| {
+                black_box(answers::roles(&new(i), usize::from(at(i).phase)));
             }),
         ),
         row(
             "role map",
             "`.roles(phase)` alone, of a layout already made, not to bytes",
-            role_map,
-            time_roles_alone(mode, inputs, effort),
+            beside_role_map(mode, inputs, effort, |i| {
+                black_box(black_box(&made[i % INPUTS]).roles(usize::from(at(i).phase)));
+            }),
         ),
         row(
             "data list",
             "`FrameLayout::new` and a copy of `data[phase]`",
-            time_data_list(mode, inputs, effort),
-            time(effort, |i| {
-                let input = black_box(&inputs[i % INPUTS]);
-                let layout = FrameLayout::new(black_box(mode), input.kinds);
-                black_box(layout.data[usize::from(input.phase)].clone());
+            beside_data_list(mode, inputs, effort, |i| {
+                black_box(new(i).data[usize::from(at(i).phase)].clone());
             }),
         ),
         row(
             "continual list",
             "`FrameLayout::new` and `continual_list`",
-            time_continual_list(mode, inputs, effort),
-            time(effort, |i| {
-                let input = black_box(&inputs[i % INPUTS]);
-                let layout = FrameLayout::new(black_box(mode), input.kinds);
-                black_box(rx::continual_list(&layout));
+            beside_continual_list(mode, inputs, effort, |i| {
+                black_box(rx::continual_list(&new(i)));
             }),
         ),
         row(
             "sign map",
             "13 × `segment_w` and `edge_w`",
-            time_sign_map(mode, effort),
-            time(effort, |_| {
+            beside_sign_map(mode, effort, |_| {
                 black_box(answers::signs(black_box(mode)));
             }),
         ),
     ]
 }
 
-fn time_role_map(mode: Mode, inputs: &[Input], effort: &Effort) -> f64 {
+/// The port's role map, timed beside the Rust's. Here and below, each call of the port is first seen to
+/// be accepted and to agree with the Rust.
+fn beside_role_map(
+    mode: Mode,
+    inputs: &[Input],
+    effort: &Effort,
+    rust: impl FnMut(usize),
+) -> Times {
     let number = mode.number();
     let mut out = vec![0; mode.total_carriers()];
     for input in inputs {
@@ -195,25 +194,20 @@ fn time_role_map(mode: Mode, inputs: &[Input], effort: &Effort) -> f64 {
         assert_eq!(code, 0, "the role map is accepted");
         assert!(out == answers::roles(&layout, usize::from(input.phase)));
     }
-    time(effort, |i| {
+    let port = |i: usize| {
         let input = black_box(&inputs[i % INPUTS]);
         let code = ffi::role_map(black_box(number), input.phase, &input.bytes, &mut out);
         black_box((code, &mut out));
-    })
+    };
+    time(effort, port, rust)
 }
 
-fn time_roles_alone(mode: Mode, inputs: &[Input], effort: &Effort) -> f64 {
-    let layouts: Vec<FrameLayout> = inputs
-        .iter()
-        .map(|input| FrameLayout::new(mode, input.kinds))
-        .collect();
-    time(effort, |i| {
-        let phase = usize::from(black_box(&inputs[i % INPUTS]).phase);
-        black_box(black_box(&layouts[i % INPUTS]).roles(phase));
-    })
-}
-
-fn time_data_list(mode: Mode, inputs: &[Input], effort: &Effort) -> f64 {
+fn beside_data_list(
+    mode: Mode,
+    inputs: &[Input],
+    effort: &Effort,
+    rust: impl FnMut(usize),
+) -> Times {
     let number = mode.number();
     let mut out = vec![0; answers::data_count(mode)];
     for input in inputs {
@@ -222,14 +216,20 @@ fn time_data_list(mode: Mode, inputs: &[Input], effort: &Effort) -> f64 {
         assert_eq!(code, 0, "the data list is accepted");
         assert!(out == layout.data[usize::from(input.phase)]);
     }
-    time(effort, |i| {
+    let port = |i: usize| {
         let input = black_box(&inputs[i % INPUTS]);
         let code = ffi::data_list(black_box(number), input.phase, &input.bytes, &mut out);
         black_box((code, &mut out));
-    })
+    };
+    time(effort, port, rust)
 }
 
-fn time_continual_list(mode: Mode, inputs: &[Input], effort: &Effort) -> f64 {
+fn beside_continual_list(
+    mode: Mode,
+    inputs: &[Input],
+    effort: &Effort,
+    rust: impl FnMut(usize),
+) -> Times {
     let number = mode.number();
     let mut out = vec![0; mode.total_carriers()];
     let mut count = 0;
@@ -239,26 +239,25 @@ fn time_continual_list(mode: Mode, inputs: &[Input], effort: &Effort) -> f64 {
         assert_eq!(code, 0, "the continual list is accepted");
         assert!(out[..count] == answers::continual(&layout));
     }
-    time(effort, |i| {
+    let port = |i: usize| {
         let input = black_box(&inputs[i % INPUTS]);
         let code = ffi::continual_list(black_box(number), &input.bytes, &mut out, &mut count);
         black_box((code, &mut out, &mut count));
-    })
+    };
+    time(effort, port, rust)
 }
 
-fn time_sign_map(mode: Mode, effort: &Effort) -> f64 {
+fn beside_sign_map(mode: Mode, effort: &Effort, rust: impl FnMut(usize)) -> Times {
     let number = mode.number();
     let mut out = vec![0; mode.total_carriers()];
-    assert_eq!(
-        ffi::sign_map(number, &mut out),
-        0,
-        "the sign map is accepted"
-    );
+    let code = ffi::sign_map(number, &mut out);
+    assert_eq!(code, 0, "the sign map is accepted");
     assert!(out == answers::signs(mode));
-    time(effort, |_| {
+    let port = |_| {
         let code = ffi::sign_map(black_box(number), &mut out);
         black_box((code, &mut out));
-    })
+    };
+    time(effort, port, rust)
 }
 
 /// Number of inputs of a function of floats.
@@ -347,14 +346,29 @@ fn short_subnormals() -> Vec<f64> {
     (0..FLOATS).map(number).collect()
 }
 
-/// Nanoseconds for a value. The function gives bits; those of all results are put together, so that
-/// each is needed.
-fn time_each<I: Copy>(inputs: &[I], effort: &Effort, function: impl Fn(I) -> u64) -> f64 {
-    let pass = |_| {
-        let inputs = black_box(inputs).iter();
-        black_box(inputs.fold(0, |all, &input| all ^ function(input)));
-    };
-    time(effort, pass) / inputs.len() as f64
+/// A function of floats beside one of the Rust, timed for each value.
+fn float_row<I: Copy>(
+    operation: String,
+    part: &'static str,
+    inputs: &[I],
+    effort: &Effort,
+    port: impl Fn(I) -> u64,
+    rust: impl Fn(I) -> u64,
+) -> Row {
+    let port = |_| all_of(inputs, &port);
+    let rust = |_| all_of(inputs, &rust);
+    Row {
+        operation,
+        part,
+        times: time(effort, port, rust).per(inputs.len()),
+    }
+}
+
+/// The function at each input. It gives bits; those of all results are put together, so that each is
+/// needed.
+fn all_of<I: Copy>(inputs: &[I], function: impl Fn(I) -> u64) {
+    let inputs = black_box(inputs).iter();
+    black_box(inputs.fold(0, |all, &input| all ^ function(input)));
 }
 
 /// The function of the port is first seen to agree with the Rust's.
@@ -368,63 +382,66 @@ fn root_row(what: &str, inputs: &[f64], effort: &Effort) -> Row {
     let port = |x| ffi::root(x).to_bits();
     let sqrt = |x| rust::root(x).to_bits();
     agree(inputs, port, sqrt);
-    Row {
-        operation: format!("root, {what}"),
-        part: "`sqrt`",
-        port: time_each(inputs, effort, port),
-        rust: time_each(inputs, effort, sqrt),
-    }
+    float_row(
+        format!("root, {what}"),
+        "`sqrt`",
+        inputs,
+        effort,
+        port,
+        sqrt,
+    )
 }
 
 fn narrow_row(what: &str, inputs: &[f64], effort: &Effort) -> Row {
     let port = |x| u64::from(ffi::narrow(x).to_bits());
     let cast = |x| u64::from(rust::narrow(x).to_bits());
     agree(inputs, port, cast);
-    Row {
-        operation: format!("narrow, {what}"),
-        part: "`as f32`",
-        port: time_each(inputs, effort, port),
-        rust: time_each(inputs, effort, cast),
-    }
+    float_row(
+        format!("narrow, {what}"),
+        "`as f32`",
+        inputs,
+        effort,
+        port,
+        cast,
+    )
 }
 
-/// The rows of a norm, which is timed once.
-fn norm_rows(operation: String, port: f64, sqrt: f64, hypot: f64) -> [Row; 2] {
-    let row = |part, rust| Row {
-        operation: operation.clone(),
-        part,
-        port,
-        rust,
-    };
+/// A norm beside that of the comparison, with which it is first seen to agree, and beside `hypot`.
+fn norm_rows<I: Copy + Debug>(
+    operation: String,
+    inputs: &[I],
+    effort: &Effort,
+    port: impl Fn(I) -> u64,
+    sqrt: impl Fn(I) -> u64,
+    hypot: impl Fn(I) -> u64,
+) -> [Row; 2] {
+    agree(inputs, &port, &sqrt);
+    let part = "`sqrt`, the norm of the comparison";
     [
-        row("`sqrt`, the norm of the comparison", sqrt),
-        row("`hypot`", hypot),
+        float_row(operation.clone(), part, inputs, effort, &port, &sqrt),
+        float_row(operation, "`hypot`", inputs, effort, &port, &hypot),
     ]
 }
 
 fn norm32_rows(what: &str, inputs: &[C32], effort: &Effort) -> [Row; 2] {
-    let port = |x: C32| u64::from(ffi::norm32(x.re, x.im).to_bits());
-    let sqrt = |x: C32| u64::from(rust::norm32(x.re, x.im).to_bits());
-    let hypot = |x: C32| u64::from(rust::hypot32(x.re, x.im).to_bits());
-    agree(inputs, port, sqrt);
     norm_rows(
         format!("norm32, {what}"),
-        time_each(inputs, effort, port),
-        time_each(inputs, effort, sqrt),
-        time_each(inputs, effort, hypot),
+        inputs,
+        effort,
+        |x| u64::from(ffi::norm32(x.re, x.im).to_bits()),
+        |x| u64::from(rust::norm32(x.re, x.im).to_bits()),
+        |x| u64::from(rust::hypot32(x.re, x.im).to_bits()),
     )
 }
 
 fn norm64_rows(what: &str, inputs: &[C64], effort: &Effort) -> [Row; 2] {
-    let port = |x: C64| ffi::norm64(x.re, x.im).to_bits();
-    let sqrt = |x: C64| rust::norm64(x.re, x.im).to_bits();
-    let hypot = |x: C64| rust::hypot64(x.re, x.im).to_bits();
-    agree(inputs, port, sqrt);
     norm_rows(
         format!("norm64, {what}"),
-        time_each(inputs, effort, port),
-        time_each(inputs, effort, sqrt),
-        time_each(inputs, effort, hypot),
+        inputs,
+        effort,
+        |x| ffi::norm64(x.re, x.im).to_bits(),
+        |x| rust::norm64(x.re, x.im).to_bits(),
+        |x| rust::hypot64(x.re, x.im).to_bits(),
     )
 }
 
