@@ -1,8 +1,9 @@
 -- The function that changes spectra as demand 3 speaks of it: spectra of len pairs, negated, turned, amplified and moved round by s. It shows that
--- the claim is about something: every change of every list of whole spectra exists.
+-- the claim is about something: every change of every list exists, of spectra that are moved (`applied`), of spectra that are not (`in-place`),
+-- and of samples, which are spectra of one pair (`taken`).
 -- Assumes nothing.
 use Prim.Native.Nat.{ℕ, suc, _+_, _*_, _/_, _%_, _≤_, _<_}
-use mathlib.Core.Bool.{cond}
+use mathlib.Core.Bool.{Bool, false, cond}
 use mathlib.Core.List.{List}
 use mathlib.Core.Path.{_≡_, refl, sym, ap, _∙_, subst}
 use native.Mathlib.Nat.{add-zero, mul-comm, mul-le-mul-right, mul-assoc, suc-mul, mul-div-le, mod-eq-of-lt}
@@ -17,6 +18,7 @@ use Rattle.lists.specs.Select.{length-upTo, getD-upTo}
 use Rattle.complex.specs.Complex.{Pair, pair}
 use Rattle.spectra.specs.Spectra.{pairAt, spectraIn}
 use Rattle.spectra.specs.Changes.{Change, Changed, changedPair}
+use Rattle.guess.specs.Changed.{Taken}
 use Rattle.shift.specs.Shift.{movedBin}
 use Rattle.shift.specs.MovedBins.{moved-twice, moved-below}
 
@@ -82,4 +84,27 @@ applied c len s xs =
           pair-changed c len s xs (j * len + m) (inside len j m (length xs) J M)
           ∙ (λ i. changedPair c (row len j m M i) (pairAt xs (row len j m M i * len + movedBin len (column-of len j m M i) (negℤ s))))
           ∙ ap (λ (z : ℕ). changedPair c j (pairAt xs (j * len + z))) (back len b s L B);
+    }
+
+-- the changes of kinds and pilot phase
+pub in-place : (c : Change) (len : ℕ) (xs : List Float) → Changed c len (λ b. b) xs (changed c len (pos 0) xs)
+in-place c len xs =
+    let a = applied c len (pos 0) xs in
+    record {
+      long = a .long;
+      pairs = λ j b J B.
+          let stays : (b + 0) % len ≡ b = rw (add-zero b) (mod-eq-of-lt B) in
+          ap (λ (z : ℕ). pairAt (changed c len (pos 0) xs) (j * len + z)) (sym stays) ∙ a .pairs j b J B;
+    }
+
+-- the changes of the guess
+abbrev pub changedSamples : Bool → ℕ → List Float → List Float
+changedSamples turns gain = changed (record { negates = λ j. false; turns = turns; gain = gain }) 1 (pos 0)
+
+pub taken : (turns : Bool) (gain : ℕ) (xs : List Float) → Taken turns gain xs (changedSamples turns gain xs)
+taken turns gain xs =
+    let a = in-place (record { negates = λ j. false; turns = turns; gain = gain }) 1 xs in
+    record {
+      long = a .long;
+      pairs = λ i l. let at : i * 1 + 0 ≡ i = omega arith in rw at at (a .pairs i 0 l (omega arith));
     }

@@ -1,6 +1,6 @@
 -- What document 01 says of the guess as facts: where something is found its energy is not at or below zero; nothing is found only if every offset
 -- tried has energy at or below zero, or none is tried; the first offset with energy is taken whatever its metric, even a NaN; afterwards
--- only a greater metric replaces.
+-- only a greater metric replaces. Without a mode, or without a guard, no samples are needed.
 -- Assumes nothing.
 use Prim.Native.Nat.{ℕ, zero, suc, _+_, _*_, _≤_, _<_}
 use mathlib.Core.Bool.{Bool, true, false, _||_, cond}
@@ -16,11 +16,20 @@ use Rattle.ieee.specs.Constants.{plusZero}
 use Rattle.lists.specs.Lists.{range}
 use Rattle.lists.specs.Tests.{memb}
 use Rattle.lists.specs.Select.{length-upTo, getD-upTo}
-use Rattle.guess.specs.Samples.{fftOf, guardOf, symbolOf}
+use Rattle.guess.specs.Samples.{fftOf, guardOf, symbolOf, greatest, samplesNeeded}
 use Rattle.guess.specs.Guess.{pairsIn, lagsIn, energyAt, guessAt, beats, offered, scan, triedGuard, triedMode, guessed}
 use Rattle.guess.specs.declared.ModeGuess.{ModeGuess}
 use Rattle.guess.specs.declared.GuardSearch.{GuardSearch}
 use Rattle.guess.specs.declared.GuardSearch.the-variants.{Found, Nothing, Refused}
+
+pub no-modes : (guards : List ℕ) (symbols : ℕ) → samplesNeeded [] guards symbols ≡ 0
+unfolding samplesNeeded greatest
+no-modes guards symbols = refl
+
+pub no-guards : (modes : List ℕ) (symbols : ℕ) → samplesNeeded modes [] symbols ≡ 0
+unfolding samplesNeeded greatest
+no-guards [] symbols = refl
+no-guards (mode ∷ modes) symbols = no-guards modes symbols
 
 pub first-taken : (xs : List Float) (mode guard d : ℕ) → le (energyAt xs mode guard d) (plusZero binary64) ≡ false
     → offered xs mode guard Nothing d ≡ Found (guessAt xs mode guard d)
