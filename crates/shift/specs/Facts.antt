@@ -1,21 +1,49 @@
--- Equal shift scores keep the most negative: the shifts are tried from -bound upward, and a sum that is not greater does not replace.
+-- What the search for the shift ends with. No shift of the range has a greater sum than the winner. Equal sums keep the most negative: where the
+-- winner's sum is above `f32::MIN`, from which the search starts, it is at or below the sum of no more negative shift, so that such a sum is less
+-- or a NaN. Where every sum is a NaN the answer stays where the search starts, at shift 0 and `f32::MIN`.
+-- This is of sums. Scores are sums divided, and may tie where sums do not: in mode 1 the sums 14 + 2^-20 and 14 + 2^-19 both give the score
+-- 0x3f04bda2, and the greater sum wins.
 -- The pattern has 27, 53 and 105 bins in modes 1, 2 and 3.
 -- Assumes nothing.
-use Prim.Native.Nat.{ℕ}
-use mathlib.Core.Bool.{false}
-use mathlib.Core.List.{List, _∷_}
+use Prim.Native.Nat.{ℕ, _+_, _*_, _<_}
+use mathlib.Core.Bool.{true, false}
+use mathlib.Core.List.{List}
 use mathlib.Core.Path.{_≡_, refl}
-use lib.IntN.{ℤ}
-use lib.Ieee.{Float, lt}
+use lib.Dec.{T}
+use lib.IntN.{pos}
+use lib.Ieee.{Float, minus, lt, le, isNan}
 use lib.ListN.{length}
+use Rattle.ieee.specs.Constants.{lowest}
+use Rattle.ieee.specs.Numbers.{same-bool}
 use Rattle.params.specs.declared.Mode.{Mode}
 use Rattle.params.specs.declared.Mode.the-variants.{M1, M2, M3}
-use Rattle.shift.specs.Shift.{Winner, searched, patternCarriers, pattern}
+use Rattle.params.specs.Params.{fftSize}
+use Rattle.shift.specs.Shift.{winner, sumAt, bestShift, patternCarriers, pattern}
+use Rattle.shift.specs.Searches.{found-most, found-first, found-nan}
 
-pub not-greater : (f : ℤ → Float) (w : Winner) (z : ℤ) (zs : List ℤ) → lt (w .sum) (f z) ≡ false → searched f w (z ∷ zs) ≡ searched f w zs
-unfolding searched
-not-greater f w z zs h = rw h
+-- ---- the winner. Shift number j is j - bound, so the smaller of two numbers is the more negative shift.
+-- no shift of the range has a greater sum than the winner
+pub none-greater : (mode : Mode) (bound : ℕ) (ratios : List Float) (j : ℕ) → j < 2 * bound + 1
+    → lt (bestShift mode bound ratios .sum) (sumAt (fftSize mode) (pattern mode) ratios (minus j bound)) ≡ false
+unfolding bestShift
+none-greater mode bound ratios j h = same-bool _ false (found-most (sumAt (fftSize mode) (pattern mode) ratios) bound j h) (λ t. absurd t)
 
+-- equal sums keep the most negative: where the winner's sum is above `f32::MIN`, it is at or below the sum of no more negative shift
+pub most-negative : (mode : Mode) (bound : ℕ) (ratios : List Float) (i j : ℕ) → i < j → j < 2 * bound + 1
+    → bestShift mode bound ratios .shift ≡ minus j bound → T (lt lowest (bestShift mode bound ratios .sum))
+    → le (bestShift mode bound ratios .sum) (sumAt (fftSize mode) (pattern mode) ratios (minus i bound)) ≡ false
+unfolding bestShift
+most-negative mode bound ratios i j l h e g =
+    same-bool _ false (found-first (sumAt (fftSize mode) (pattern mode) ratios) bound i j l e g) (λ t. absurd t)
+
+-- with every sum a NaN the answer stays where the search starts: shift 0 and `f32::MIN`
+pub all-nan : (mode : Mode) (bound : ℕ) (ratios : List Float)
+    → ((j : ℕ) → j < 2 * bound + 1 → isNan (sumAt (fftSize mode) (pattern mode) ratios (minus j bound)) ≡ true)
+    → bestShift mode bound ratios ≡ winner (pos 0) lowest
+unfolding bestShift
+all-nan mode bound ratios = found-nan (sumAt (fftSize mode) (pattern mode) ratios) bound
+
+-- ---- the pattern
 abbrev pub patternBins : Mode → ℕ
 patternBins M1 = 27
 patternBins M2 = 53

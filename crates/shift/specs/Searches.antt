@@ -1,16 +1,17 @@
--- Laws of the search over the shifts: its winner is in range, and a shift that beats every other one of the range is the winner.
+-- Laws of the search over the shifts. Its winner is in range, and a shift that beats every other one of the range is the winner. No shift of the
+-- range has a greater sum than the winner, equal sums keep the most negative, and sums that are all NaN leave the start.
 -- Assumes nothing.
 use Prim.Native.Nat.{ℕ, zero, suc, _+_, _-_, _*_, _≤_, _<_}
-use mathlib.Core.Bool.{Bool, true, false, not, cond}
+use mathlib.Core.Bool.{Bool, true, false, not, cond, false≢true}
 use mathlib.Core.List.{List, [], _∷_, _++_, map, map-append}
 use mathlib.Core.Path.{_≡_, refl, sym, ap, _∙_, subst}
 use native.Mathlib.Decide.{decLt}
 use native.Mathlib.Omega.{arith}
 use lib.Dec.{T, leb, leb→le, nleb→lt}
 use lib.IntN.{ℤ, pos, negsuc, natAbs}
-use lib.Ieee.{Float, minus, lt}
+use lib.Ieee.{Float, nan, inf, fin, minus, lt, le, isNan}
 use Rattle.ieee.specs.Constants.{lowest}
-use Rattle.ieee.specs.Order.{lt-asym}
+use Rattle.ieee.specs.Order.{lt-nan, lt-asym, lt-trans, lt-le-trans}
 use Rattle.lists.specs.Lists.{range}
 use Rattle.shift.specs.Shift.{Winner, winner, searched, shifts}
 
@@ -52,9 +53,19 @@ searched-more f w [] z = refl
 searched-more f w (y ∷ zs) z = searched-more f _ zs z
 
 -- either of two winners
-either : (P : Winner → Type 0) (b : Bool) (x y : Winner) → P x → P y → P (cond b x y)
-either P true x y p q = p
-either P false x y p q = q
+either : (P : Winner → Type 0) (b : Bool) (x y : Winner) → (T b → P x) → ((T b → ⊥) → P y) → P (cond b x y)
+either P true x y p q = p tt
+either P false x y p q = q (λ t. t)
+
+-- no sum beats itself, and no NaN beats a sum
+lt-self : (x : Float) → T (lt x x) → ⊥
+lt-self x t = subst T (lt-asym x x t) t
+
+nan-loses : (x y : Float) → isNan y ≡ true → T (lt x y) → ⊥
+unfolding isNan
+nan-loses x nan e t = subst T (lt-nan x) t
+nan-loses x (inf s) e t = false≢true e
+nan-loses x (fin s m d) e t = false≢true e
 
 module _ (f : ℤ → Float) (w : Winner) (at : ℕ → ℤ) where
   -- the winner of the first n
@@ -64,13 +75,45 @@ module _ (f : ℤ → Float) (w : Winner) (at : ℕ → ℤ) where
   won-next : (n : ℕ) → won (suc n) ≡ cond (lt (won n .sum) (f (at n))) (winner (at n) (f (at n))) (won n)
   won-next n = rw map-append (searched-more f w (map at (range n)) (at n))
 
+  -- shift n is taken where its sum is greater
+  won-step : (n : ℕ) (P : Winner → Type 0) → (T (lt (won n .sum) (f (at n))) → P (winner (at n) (f (at n))))
+      → ((T (lt (won n .sum) (f (at n))) → ⊥) → P (won n)) → P (won (suc n))
+  won-step n P taken left = rw (won-next n) (either P (lt (won n .sum) (f (at n))) (winner (at n) (f (at n))) (won n) taken left)
+
   -- what holds of every shift holds of the winner's
   won-any : (P : ℤ → Type 0) (n : ℕ) → P (w .shift) → ((j : ℕ) → j < n → P (at j)) → P (won n .shift)
   unfolding searched
   won-any P zero h g = h
-  won-any P (suc n) h g =
-      rw (won-next n) (either (λ x. P (x .shift)) (lt (won n .sum) (f (at n))) (winner (at n) (f (at n))) (won n)
-      (g n (omega arith)) (won-any P n h (λ j l. g j (omega arith))))
+  won-any P (suc n) h g = won-step n (λ x. P (x .shift)) (λ _. g n (omega arith)) (λ _. won-any P n h (λ j l. g j (omega arith)))
+
+  -- none of the first n has a greater sum than the winner
+  won-most : (n j : ℕ) → j < n → T (lt (won n .sum) (f (at j))) → ⊥
+  won-most zero j l = absurd (omega arith)
+  won-most (suc n) j l = by (decLt j n) (won-most n j)
+    where
+      by : Dec (j < n) → (j < n → T (lt (won n .sum) (f (at j))) → ⊥) → T (lt (won (suc n) .sum) (f (at j))) → ⊥
+      by (yes k) go =
+          won-step n (λ x. T (lt (x .sum) (f (at j))) → ⊥) (λ t g. go k (lt-trans (won n .sum) (f (at n)) (f (at j)) t g)) (λ _. go k)
+      by (no k) go =
+          let e : j ≡ n = omega arith in
+          rw e (won-step n (λ x. T (lt (x .sum) (f (at n))) → ⊥) (λ _. lt-self (f (at n))) (λ g. g))
+
+  -- a winner above the start is at or below no sum before its own
+  won-first : (number : ℤ → ℕ) → ((j : ℕ) → number (at j) ≡ j) → (n i : ℕ) → i < number (won n .shift) → T (lt (w .sum) (won n .sum))
+      → T (le (won n .sum) (f (at i))) → ⊥
+  unfolding searched
+  won-first number e zero i = λ l g k. lt-self (w .sum) g
+  won-first number e (suc n) i =
+      won-step n (λ x. i < number (x .shift) → T (lt (w .sum) (x .sum)) → T (le (x .sum) (f (at i))) → ⊥)
+      (λ t l g k. won-most n i (rw (e n) at l) (lt-le-trans (won n .sum) (f (at n)) (f (at i)) t k)) (λ _. won-first number e n i)
+
+  -- sums that are all NaN leave the start
+  won-nan : (n : ℕ) → ((j : ℕ) → j < n → isNan (f (at j)) ≡ true) → won n ≡ w
+  unfolding searched
+  won-nan zero h = refl
+  won-nan (suc n) h =
+      won-step n (λ x. x ≡ w) (λ t. absurd (nan-loses (won n .sum) (f (at n)) (h n (omega arith)) t))
+      (λ _. won-nan n (λ j l. h j (omega arith)))
 
   -- shift i beats every other one of the first m, and the start
   module _ (i m : ℕ) (beats : (j : ℕ) → j < m → (j ≡ i → ⊥) → T (lt (f (at j)) (f (at i)))) (start : T (lt (w .sum) (f (at i)))) where
@@ -79,8 +122,7 @@ module _ (f : ℤ → Float) (w : Winner) (at : ℕ → ℤ) where
     unfolding searched
     won-before zero h l = start
     won-before (suc n) h l =
-        rw (won-next n) (either (λ x. T (lt (x .sum) (f (at i)))) (lt (won n .sum) (f (at n))) (winner (at n) (f (at n))) (won n)
-        (beats n (omega arith) (λ e. omega arith)) (won-before n (omega arith) (omega arith)))
+        won-step n (λ x. T (lt (x .sum) (f (at i)))) (λ _. beats n (omega arith) (λ e. omega arith)) (λ _. won-before n (omega arith) (omega arith))
 
     -- from then on it is the winner
     won-after : (n : ℕ) → n ≤ m → i < n → won n ≡ winner (at i) (f (at i))
@@ -119,3 +161,17 @@ module _ (f : ℤ → Float) (bound : ℕ) where
       (λ j l g. subst (λ y. T (lt (f (minus j bound)) (f y))) (sym here)
       (beats (minus j bound) (shift-inside j bound l) (λ e. g (sym (number-of-shift j bound) ∙ ap (numberOf bound) e))))
       (subst (λ y. T (lt lowest (f y))) (sym here) start) (2 * bound + 1) (omega arith) (number-below bound z inside))
+
+  pub found-most : (j : ℕ) → j < 2 * bound + 1 → T (lt (found .sum) (f (minus j bound))) → ⊥
+  unfolding shifts
+  found-most = won-most f (winner (pos 0) lowest) (λ j. minus j bound) (2 * bound + 1)
+
+  pub found-first : (i j : ℕ) → i < j → found .shift ≡ minus j bound → T (lt lowest (found .sum)) → T (le (found .sum) (f (minus i bound))) → ⊥
+  unfolding shifts
+  found-first i j l e =
+      won-first f (winner (pos 0) lowest) (λ j. minus j bound) (numberOf bound) (λ j. number-of-shift j bound) (2 * bound + 1) i
+      (rw (e, number-of-shift j bound) l)
+
+  pub found-nan : ((j : ℕ) → j < 2 * bound + 1 → isNan (f (minus j bound)) ≡ true) → found ≡ winner (pos 0) lowest
+  unfolding shifts
+  found-nan = won-nan f (winner (pos 0) lowest) (λ j. minus j bound) (2 * bound + 1)
