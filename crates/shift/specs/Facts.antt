@@ -29,11 +29,11 @@ unfolding bestShift
 none-greater mode bound ratios j h = same-bool _ false (found-most (sumAt (fftSize mode) (pattern mode) ratios) bound j h) (λ t. absurd t)
 
 -- equal sums keep the most negative: where the winner's sum is above `f32::MIN`, it is at or below the sum of no more negative shift
-pub most-negative : (mode : Mode) (bound : ℕ) (ratios : List Float) (i j : ℕ) → i < j → j < 2 * bound + 1
+pub most-negative : (mode : Mode) (bound : ℕ) (ratios : List Float) (i j : ℕ) → i < j
     → bestShift mode bound ratios .shift ≡ minus j bound → T (lt lowest (bestShift mode bound ratios .sum))
     → le (bestShift mode bound ratios .sum) (sumAt (fftSize mode) (pattern mode) ratios (minus i bound)) ≡ false
 unfolding bestShift
-most-negative mode bound ratios i j l h e g =
+most-negative mode bound ratios i j l e g =
     same-bool _ false (found-first (sumAt (fftSize mode) (pattern mode) ratios) bound i j l e g) (λ t. absurd t)
 
 -- with every sum a NaN the answer stays where the search starts: shift 0 and `f32::MIN`

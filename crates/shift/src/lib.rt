@@ -74,11 +74,11 @@ fn pattern_sum(bins: &[u32], ratios: &[f32], up: usize) -> f32
     requires { ⌜ Movable (length (now ratios)) up ⌝ }
     ensures { λ r. ⌜ r ≡ sumUp (now (bins .entry)) (now (ratios .entry)) up ⌝ }
 {
-    let n = ratios.len();
+    let len = ratios.len();
     let mut sum = ieee::NEGATIVE_ZERO;
     let mut i: usize = 0;
     while i < bins.len() {
-        let bin = (bins[i] as usize + up) % n;
+        let bin = (bins[i] as usize + up) % len;
         sum = sum + ratios[bin];
         i += 1;
     }
