@@ -1,7 +1,7 @@
--- What the soft value adds up. With every segment let pass, the carriers are those of role TMCC, ascending; a filter that no segment passes
--- gives -0.0.
+-- What the soft value adds up. With every segment let pass, the carriers are those of role TMCC, ascending; a filter keeps those of them that
+-- lie in the segments that pass, in the same order; and a filter that no segment passes gives -0.0.
 -- Assumes nothing.
-use Prim.Native.Nat.{ℕ, suc, suc-le-suc, _+_, _*_, _≤_, _<_}
+use Prim.Native.Nat.{ℕ, suc, suc-le-suc, _+_, _*_, _/_, _≤_, _<_}
 use mathlib.Core.Bool.{Bool, true, false, cond, _&&_}
 use mathlib.Core.List.{List, [], _∷_, map, append-nil}
 use mathlib.Core.Path.{_≡_, refl, sym, ap, _∙_}
@@ -9,14 +9,15 @@ use native.Mathlib.Decide.{decLt}
 use native.Mathlib.Nat.{zero-add, zero-mul}
 use native.Mathlib.Omega.{arith}
 use borrow.Author.Tests.{eq-eqb, ne-eqb, le-leb, leb-true, ltb-true}
+use lib.Arith.{digits-div}
 use lib.Dec.{eqb, leb, ltb, lit<}
 use lib.Ieee.{Float}
 use lib.ListN.{getD, length}
 use Rattle.ieee.specs.Constants.{minusZero}
 use Rattle.ieee.specs.Sums.{total}
-use Rattle.lists.specs.Lists.{upTo, joined, chosen}
+use Rattle.lists.specs.Lists.{upTo, range, joined, select, chosen}
 use Rattle.lists.specs.Fill.{joined-same}
-use Rattle.lists.specs.Select.{length-upTo, getD-upTo, chosen-append, chosen-joined}
+use Rattle.lists.specs.Select.{length-upTo, getD-upTo, select-append, chosen-append, chosen-joined}
 use Rattle.lists.specs.Tests.{memb, allBelow, allBelow-at, both-left, both-right}
 use Rattle.lists.specs.Truth.{same, same-true, always5-at}
 use Rattle.params.specs.declared.Mode.{Mode}
@@ -25,7 +26,7 @@ use Rattle.params.specs.declared.SegmentKind.{SegmentKind}
 use Rattle.params.specs.declared.SegmentKind.the-variants.{Coherent, Differential}
 use Rattle.params.specs.Params.{carriersPerSegment, kindFrom}
 use Rattle.tables.specs.Places.{tmccOf, ac1Of, ac2Of, isSp, isCp, claims, one}
-use Rattle.tables.specs.Rule.{apart}
+use Rattle.tables.specs.Rule.{apart, tmcc-below}
 use Rattle.ofdm.specs.Band.{order, segmentAt, placeOf}
 use Rattle.ofdm.specs.Laws.{place-of-segment, segment-below}
 use Rattle.frame.specs.declared.CarrierRole.the-variants.{EdgeCp}
@@ -158,3 +159,31 @@ tmcc-by-role mode kinds =
     rw (place-of-segment place h)
     (sym (segment-tmcc mode (wideSegment kinds (segmentAt place)) (segment-below place h) (place * carriersPerSegment mode))))
     ∙ sym (by-segment mode kinds)
+
+-- ---- a filter
+select-joined : (q : ℕ → Bool) (f : ℕ → List ℕ) (xs : List ℕ) → select q (joined f xs) ≡ joined (λ x. select q (f x)) xs
+select-joined q f [] = refl
+select-joined q f (x ∷ xs) = rw (select-append q (f x) (joined f xs), select-joined q f xs)
+
+-- where a test says the same of each, all pass or none
+select-alike : (q : ℕ → Bool) (b : Bool) (g : ℕ → ℕ) (xs : List ℕ) → ((i : ℕ) → i < length xs → q (g (getD xs i 0)) ≡ b)
+    → select q (map g xs) ≡ cond b (map g xs) []
+select-alike q true g [] h = refl
+select-alike q false g [] h = refl
+select-alike q true g (x ∷ xs) h = rw (h 0 (omega arith), select-alike q true g xs (λ i l. h (suc i) (suc-le-suc l)))
+select-alike q false g (x ∷ xs) h = rw (h 0 (omega arith), select-alike q false g xs (λ i l. h (suc i) (suc-le-suc l)))
+
+-- a filter keeps of them those that lie in segments of its kind: the carrier k lies at the place k / c
+pub tmcc-filtered : (mode : Mode) (kinds : List ℕ) (filter : ℕ) → filter ≤ 1
+    → tmccCarriers mode kinds filter
+    ≡ select (λ k. passes filter (kindFrom (getD kinds (segmentAt (k / carriersPerSegment mode)) 0))) (tmccCarriers mode kinds 2)
+unfolding tmccCarriers
+tmcc-filtered mode kinds filter h =
+    let c = carriersPerSegment mode in
+    let kind : ℕ → SegmentKind = λ place. kindFrom (getD kinds (segmentAt place) 0) in
+    let test : ℕ → Bool = λ k. passes filter (kind (k / c)) in
+    sym
+    (select-joined test (placeTmcc mode kinds 2) (range 13)
+    ∙ joined-same (λ place. select test (placeTmcc mode kinds 2 place)) (placeTmcc mode kinds filter) 13 (λ place l.
+    select-alike test (passes filter (kind place)) (λ p. place * c + p) (tmccOf mode (kind place) (segmentAt place)) (λ i m.
+    ap (λ (z : ℕ). passes filter (kind z)) (digits-div place (tmcc-below mode (kind place) (segmentAt place) (segment-below place l) i m)))))
