@@ -1,2 +1,3 @@
 pub mod Tmcc
 pub mod Inner
+pub mod Facts
