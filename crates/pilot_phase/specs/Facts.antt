@@ -1,5 +1,6 @@
 -- What document 01 says of the votes. Every spectrum votes: the four counts add up to the number of spectra. The phase that wins has the
--- most votes, and is the largest of those with as many. The next is the largest of the other three counts.
+-- most votes, and is the largest of those with as many. The next is the largest of the other three counts. Zero spectra give phase 3 with
+-- share 0.0.
 -- Assumes nothing.
 use Prim.Native.Nat.{ℕ, zero, suc, _+_, _≤_, _<_, suc-le-suc}
 use mathlib.Core.Bool.{Bool, true, false, cond}
@@ -11,14 +12,19 @@ use native.Mathlib.Omega.{arith}
 use borrow.Author.Tests.{leb-true, leb-false, ne-eqb, eqb-true, eqb-false}
 use lib.Dec.{eqb, leb, lit<}
 use lib.ListN.{getD, length}
-use lib.Ieee.{Float}
+use lib.Ieee.{Float, binary32, div, ofInt, ofBits}
+use Rattle.ieee.specs.Constants.{plusZero}
 use Rattle.lists.specs.Lists.{upTo}
 use Rattle.lists.specs.Select.{length-upTo, getD-upTo}
 use Rattle.lists.specs.Tests.{agree}
 use Rattle.params.specs.declared.Mode.{Mode}
+use Rattle.params.specs.declared.Mode.the-variants.{M1, M2, M3}
+use Rattle.params.specs.declared.ModeNumber.the-variants.{Known}
 use Rattle.params.specs.Params.{totalCarriers}
 use Rattle.spectra.specs.Spectra.{spectraIn}
-use Rattle.pilot_phase.specs.PilotPhase.{choiceOf, voteOf, spectrumAt, votes, countOf, better, wonBy, nextTo}
+use Rattle.frame.specs.Operations.{areKinds}
+use Rattle.pilot_phase.specs.declared.PilotPhase.the-variants.{Phase}
+use Rattle.pilot_phase.specs.PilotPhase.{pilots, choiceOf, voteOf, spectrumAt, votes, countOf, countsOf, better, wonBy, shareOf, nextTo, phaseCode, phaseAnswer}
 use Rattle.pilot_phase.specs.Most.{larger-one, larger-high, other, mostFrom, all-most}
 
 -- ---- every spectrum votes
@@ -135,3 +141,11 @@ pub next-below : (counts : List ℕ) → nextTo counts (wonBy counts) ≤ getD c
 next-below counts =
     let o = next-one counts (wonBy counts) in
     rw (o .count) (won-most counts (o .phase) (o .one))
+
+-- ---- zero spectra: phase 3 with share 0.0
+pub no-spectra : (m : Mode) (kinds : List ℕ) → areKinds kinds ≡ true → eqb (length (pilots m kinds 0)) 0 ≡ false
+    → phaseAnswer (Known m) kinds [] ≡ Phase 3 (plusZero binary32)
+unfolding phaseAnswer phaseCode countsOf countOf votes wonBy shareOf div ofInt ofBits
+no-spectra M1 kinds k e = rw (k, e)
+no-spectra M2 kinds k e = rw (k, e)
+no-spectra M3 kinds k e = rw (k, e)
