@@ -25,8 +25,8 @@ use Rattle.pilot_phase.specs.declared.PilotPhase.the-variants.{NoScatter
 use Rattle.pilot_phase.specs.declared.PilotAnswer.{PilotAnswer}
 use Rattle.pilot_phase.specs.PilotPhase.{pilots, votes, countOf, countsOf, wonBy, nextTo, shareOf, leadOf, phaseCode, phaseAnswer, countsAnswer, PhaseDetected}
 use Rattle.pilot_phase.specs.Inner.{Votable, Won, somePilots, Nothing}
+use Rattle.pilot_phase.specs.Facts.{next-below}
 use Rattle.pilot_phase.proofs.Counting.{counts-at, count-few, votes-length}
-use Rattle.pilot_phase.proofs.Most.{next-below}
 
 abbrev zeros : List ℕ
 zeros = 0 ∷ 0 ∷ 0 ∷ 0 ∷ []

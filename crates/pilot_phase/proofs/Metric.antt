@@ -27,7 +27,8 @@ use Rattle.prbs.specs.Buffered.{signs-length}
 use Rattle.pilot_phase.specs.declared.Run.{Run}
 use Rattle.pilot_phase.specs.PilotPhase.{pilots, twelveApart, productSum, energySum, phaseMetric}
 use Rattle.pilot_phase.specs.Inner.{twelfths, Parted, Walked, Walkable, Walks, Spectrum}
-use Rattle.pilot_phase.proofs.Pilots.{twelves, segmentPilots, by-segment, coherent-pilots, differential-pilots}
+use Rattle.pilot_phase.specs.Pilots.{twelves}
+use Rattle.pilot_phase.proofs.Pilots.{segmentPilots, by-segment, coherent-pilots, differential-pilots}
 use Rattle.pilot_phase.proofs.Walking.{walk-apart}
 
 -- no pilot yet

@@ -10,40 +10,23 @@ use borrow.Author.Tests.{eqb-true, eqb-false, eq-eqb, ne-eqb}
 use lib.Dec.{eqb}
 use lib.ListN.{length, getD, length-append}
 use Rattle.lists.specs.Lists.{upTo, joined, chosen}
-use Rattle.lists.specs.Tests.{memb}
-use Rattle.lists.specs.Truth.{same, same-true, always5-at}
 use Rattle.lists.specs.Select.{length-upTo, chosen-append, chosen-joined}
 use Rattle.params.specs.declared.Mode.{Mode}
-use Rattle.params.specs.declared.Mode.the-variants.{M1, M2, M3}
 use Rattle.params.specs.declared.SegmentKind.{SegmentKind}
 use Rattle.params.specs.declared.SegmentKind.the-variants.{Coherent, Differential}
 use Rattle.params.specs.Params.{carriersPerSegment, kindFrom}
 use Rattle.params.specs.Laws.{sized}
-use Rattle.tables.specs.Places.{tmccOf, ac1Of, ac2Of, isSp, isCp}
+use Rattle.tables.specs.Places.{isSp}
 use Rattle.ofdm.specs.Band.{order, placeOf}
 use Rattle.ofdm.specs.Laws.{place-below, segment-of-place, place-of-segment, segment-below}
 use Rattle.frame.specs.declared.CarrierRole.the-variants.{EdgeCp}
-use Rattle.frame.specs.Roles.{OfdmSegment, roleByte, placeRole, segmentRoles, bandRoles, wideSegment, wide}
-use Rattle.frame.specs.OneRole.{first, segment-length}
+use Rattle.frame.specs.Roles.{roleByte, placeRole, segmentRoles, bandRoles, wideSegment, wide}
+use Rattle.frame.specs.OneRole.{segment-length}
 use Rattle.pilot_phase.specs.PilotPhase.{pilots}
 use Rattle.pilot_phase.specs.Inner.{twelfths, somePilots}
-
-abbrev isPilot : ℕ → Bool
-isPilot role = eqb role 1
+use Rattle.pilot_phase.specs.Pilots.{isPilot, place-pilot, twelves, last-chosen}
 
 -- ---- one segment
--- a place's byte is 1 where the pilots' rule says so
-sp-place : (mode : Mode) (s : OfdmSegment) (phase p : ℕ) → isPilot (roleByte (placeRole mode s phase p)) ≡ isSp (s .kind) phase p
-unfolding placeRole
-sp-place mode s phase p =
-    same-true _ _
-    (always5-at (λ sp cp t a b. same (isPilot (roleByte (first sp cp t a b))) sp) refl
-    (isSp (s .kind) phase p) (isCp (s .kind) p) (memb p (tmccOf mode (s .kind) (s .row)))
-    (memb p (ac1Of mode (s .kind) (s .row))) (memb p (ac2Of mode (s .kind) (s .row))))
-
-last-chosen : (f : ℕ → ℕ) (k n : ℕ) → chosen isPilot k (upTo f (suc n)) ≡ chosen isPilot k (upTo f n) ++ cond (isPilot (f n)) ((k + n) ∷ []) []
-last-chosen f k n = chosen-append isPilot k (upTo f n) (f n ∷ []) ∙ rw (length-upTo f n)
-
 none-chosen : (f : ℕ → ℕ) (k : ℕ) → ((p : ℕ) → isPilot (f p) ≡ false) → (n : ℕ) → chosen isPilot k (upTo f n) ≡ []
 none-chosen f k h zero = refl
 none-chosen f k h (suc n) = last-chosen f k n ∙ rw (none-chosen f k h n, h n)
@@ -63,12 +46,6 @@ spaced f k a h e (suc n) = last-chosen f k n ∙ rw (spaced f k a h e n, e n) (b
         let r = eqb-false (n % 12) a g in
         let same : (suc n + 11 - a) / 12 ≡ (n + 11 - a) / 12 = omega arith in
         rw (append-nil (twelfths (k + a) ((n + 11 - a) / 12)), same)
-
--- a segment is whole twelves
-pub twelves : (mode : Mode) → carriersPerSegment mode % 12 ≡ 0
-twelves M1 = refl
-twelves M2 = refl
-twelves M3 = refl
 
 module _ (mode : Mode) (kinds : List ℕ) (phase : ℕ) where
   -- the pilots of a segment
@@ -90,7 +67,7 @@ module _ (mode : Mode) (kinds : List ℕ) (phase : ℕ) where
     rule p = isPilot (roleByte (placeRole mode (wideSegment kinds seg) phase p))
 
     ruled : (kind : SegmentKind) → kindFrom (getD kinds seg 0) ≡ kind → (p : ℕ) → rule p ≡ isSp kind phase p
-    ruled kind e p = sp-place mode (wideSegment kinds seg) phase p ∙ ap (λ (z : SegmentKind). isSp z phase p) e
+    ruled kind e p = place-pilot mode (wideSegment kinds seg) phase p ∙ ap (λ (z : SegmentKind). isSp z phase p) e
 
     pub coherent-pilots : phase < 4 → kindFrom (getD kinds seg 0) ≡ Coherent
         → segmentPilots seg ≡ twelfths (placeOf seg * carriersPerSegment mode + 3 * phase) (carriersPerSegment mode / 12)

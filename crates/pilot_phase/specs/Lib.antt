@@ -2,4 +2,5 @@ pub mod PilotPhase
 pub mod Inner
 pub mod Pilots
 pub mod Changed
+pub mod Most
 pub mod Facts

@@ -1,18 +1,18 @@
 -- The pairs of pilots 12 carriers apart lie within the band, and a phase has at most 512 of them, as the laws of gain ask: each of the
 -- thirteen segments has at most 36 pilots.
 -- Assumes nothing.
-use Prim.Native.Nat.{ℕ, zero, suc, _+_, _*_, _≤_, _<_, zero-le}
+use Prim.Native.Nat.{ℕ, zero, suc, _+_, _*_, _%_, _≤_, _<_, zero-le}
 use mathlib.Core.Bool.{Bool, true, false, cond}
-use mathlib.Core.List.{List, [], _∷_}
+use mathlib.Core.List.{List, [], _∷_, _++_}
 use mathlib.Core.Path.{_≡_, refl, ap, subst, _∙_}
 use native.Mathlib.Nat.{le-trans, le-of-eq, zero-add}
 use native.Mathlib.Omega.{arith}
 use borrow.Author.Tests.{eqb-true, leb-true}
 use lib.Dec.{eqb, leb}
 use lib.ListN.{length, length-append}
-use Rattle.lists.specs.Lists.{joined, chosen}
+use Rattle.lists.specs.Lists.{upTo, joined, chosen}
 use Rattle.lists.specs.Tests.{memb, allBelow, allBelow-at, countBelow}
-use Rattle.lists.specs.Select.{chosen-append, length-chosen, count-same}
+use Rattle.lists.specs.Select.{length-upTo, chosen-append, length-chosen, count-same}
 use Rattle.params.specs.declared.Mode.{Mode}
 use Rattle.params.specs.declared.Mode.the-variants.{M1, M2, M3}
 use Rattle.params.specs.declared.SegmentKind.{SegmentKind}
@@ -25,7 +25,7 @@ use Rattle.frame.specs.OneRole.{first, band-length, wide-size}
 use Rattle.pilot_phase.specs.PilotPhase.{pilots, twelveApart}
 
 -- the byte of a scattered pilot
-abbrev isPilot : ℕ → Bool
+abbrev pub isPilot : ℕ → Bool
 isPilot role = eqb role 1
 
 -- ---- the pilots are carriers of the band
@@ -64,7 +64,7 @@ pilots-apart mode kinds phase =
     let e : 0 + length roles ≡ n = zero-add (length roles) ∙ band-length mode phase (wide kinds) ∙ wide-size mode kinds in
     apart-below n (pilots mode kinds phase) (chosen-below isPilot 0 n roles (le-of-eq e))
 
--- ---- there are few of them
+-- ---- the pilots of a segment
 -- a place is a pilot where the first test says so, whatever the others say
 pilot-first : (sp cp t a b : Bool) → eqb (roleByte (first sp cp t a b)) 1 ≡ sp
 pilot-first true cp t a b = refl
@@ -74,12 +74,23 @@ pilot-first false false false true b = refl
 pilot-first false false false false true = refl
 pilot-first false false false false false = refl
 
-place-pilot : (mode : Mode) (s : OfdmSegment) (phase p : ℕ) → eqb (roleByte (placeRole mode s phase p)) 1 ≡ isSp (s .kind) phase p
+pub place-pilot : (mode : Mode) (s : OfdmSegment) (phase p : ℕ) → eqb (roleByte (placeRole mode s phase p)) 1 ≡ isSp (s .kind) phase p
 unfolding placeRole
 place-pilot mode s phase p =
     pilot-first (isSp (s .kind) phase p) (isCp (s .kind) p) (memb p (tmccOf mode (s .kind) (s .row))) (memb p (ac1Of mode (s .kind) (s .row)))
     (memb p (ac2Of mode (s .kind) (s .row)))
 
+-- one place more
+pub last-chosen : (f : ℕ → ℕ) (k n : ℕ) → chosen isPilot k (upTo f (suc n)) ≡ chosen isPilot k (upTo f n) ++ cond (isPilot (f n)) ((k + n) ∷ []) []
+last-chosen f k n = chosen-append isPilot k (upTo f n) (f n ∷ []) ∙ rw (length-upTo f n)
+
+-- a segment is whole twelves
+pub twelves : (mode : Mode) → carriersPerSegment mode % 12 ≡ 0
+twelves M1 = refl
+twelves M2 = refl
+twelves M3 = refl
+
+-- ---- there are few of them
 -- every twelfth place of a coherent segment
 coherent-few : (mode : Mode) → allBelow (λ phase. leb (countBelow (isSp Coherent phase) (carriersPerSegment mode)) 36) 4 ≡ true
 coherent-few M1 = refl
