@@ -5,7 +5,7 @@
 use Prim.Native.Nat.{ℕ, suc, _+_, _*_, _/_, _%_, _≤_, _<_}
 use mathlib.Core.Bool.{Bool, false, cond}
 use mathlib.Core.List.{List}
-use mathlib.Core.Path.{_≡_, refl, sym, ap, _∙_, subst}
+use mathlib.Core.Path.{_≡_, refl, sym, ap, _∙_}
 use native.Mathlib.Nat.{add-zero, mul-comm, mul-le-mul-right, mul-assoc, suc-mul, mul-div-le, mod-eq-of-lt}
 use lib.Arith.{digits-div, digits-mod}
 use native.Mathlib.Omega.{arith}
@@ -16,7 +16,7 @@ use lib.Ieee.{Float, nan}
 use Rattle.lists.specs.Lists.{upTo}
 use Rattle.lists.specs.Select.{length-upTo, getD-upTo}
 use Rattle.complex.specs.Complex.{Pair, pair}
-use Rattle.spectra.specs.Spectra.{pairAt, spectraIn}
+use Rattle.spectra.specs.Spectra.{pairAt}
 use Rattle.spectra.specs.Changes.{Change, Changed, changedPair}
 use Rattle.guess.specs.Changed.{Taken}
 use Rattle.shift.specs.Shift.{movedBin}

@@ -1,14 +1,13 @@
 -- What a buffer that holds a band's roles gives to the lists made from it.
 -- Assumes nothing.
 use Prim.Native.Nat.{ℕ, _+_, _*_, _-_, _≤_, _<_}
-use mathlib.Core.Bool.{Bool, true, false, cond}
+use mathlib.Core.Bool.{Bool, true, false}
 use mathlib.Core.List.{List, [], _∷_, _++_}
 use mathlib.Core.Path.{_≡_, refl, sym, ap, subst, _∙_}
 use native.Mathlib.Omega.{arith}
-use borrow.Author.Tests.{le-leb, lt-leb, leb-true}
-use lib.Dec.{leb, eqb}
-use lib.ListN.{length, getD, take, drop, length-append, length-drop}
-use lib.Seq.{length-take-le, take-at}
+use lib.Dec.{leb}
+use lib.ListN.{length, take, drop, length-append, length-drop}
+use lib.Seq.{take-at}
 use Rattle.lists.specs.Lists.{range, joined, chosen}
 use Rattle.lists.specs.Fill.{joined-map, joined-same, part-of}
 use Rattle.lists.specs.Select.{length-upTo}
@@ -21,7 +20,7 @@ use Rattle.ofdm.specs.Band.{order, placeOf}
 use Rattle.ofdm.specs.Laws.{place-below, segment-of-place}
 use Rattle.frame.specs.declared.CarrierRole.the-variants.{EdgeCp}
 use Rattle.carrier_lists.specs.declared.ContinualList.{ContinualList}
-use Rattle.carrier_lists.specs.declared.ContinualList.the-variants.{Count, Refused}
+use Rattle.carrier_lists.specs.declared.ContinualList.the-variants.{Refused}
 use Rattle.frame.specs.Roles.{roleByte, isData, segmentRoles, bandRoles, wideSegment, wide}
 use Rattle.carrier_lists.specs.CarrierLists.{segmentData, dataList, continualList}
 use Rattle.frame.specs.OneRole.{band-length, wide-size}

@@ -2,25 +2,24 @@
 -- Assumes nothing.
 use Prim.Native.Nat.{ℕ, zero, suc, _+_, _*_, _-_, _≤_, _<_}
 use mathlib.Core.Bool.{Bool, true, false, cond}
-use mathlib.Core.List.{List, [], _∷_, _++_, append-assoc, append-nil}
-use mathlib.Core.Path.{_≡_, refl, sym, ap, subst, _∙_}
+use mathlib.Core.List.{List, [], _∷_, _++_, append-assoc}
+use mathlib.Core.Path.{_≡_, refl, sym, ap, _∙_}
 use native.Mathlib.Numerals.{add-one}
 use native.Mathlib.Nat.{suc-mul, mul-le-mul-right}
 use native.Mathlib.Omega.{arith}
 use native.Mathlib.Decide.{decLt}
 use borrow.Author.Tests.{le-leb, lt-leb}
-use lib.Dec.{leb}
-use lib.ListN.{length, getD, take, drop, set, length-append, length-take, length-drop}
+use lib.ListN.{length, take, drop, set, length-append, length-drop}
 use lib.Seq.{sets, sets-eq, length-sets, length-take-le}
 use Rattle.lists.specs.Lists.{range, joined, chosen}
 use Rattle.lists.specs.Fill.{joined-range, sets-append, sets-all}
 use Rattle.params.specs.declared.Mode.{Mode}
-use Rattle.params.specs.Params.{carriersPerSegment, totalCarriers}
+use Rattle.params.specs.Params.{carriersPerSegment}
 use Rattle.params.specs.Laws.{sized}
 use Rattle.ofdm.specs.Band.{placeOf}
 use Rattle.ofdm.specs.Laws.{place-below}
 use Rattle.carrier_lists.specs.declared.ContinualList.the-variants.{Count, Refused}
-use Rattle.frame.specs.Roles.{between, isData, isTmcc, isAc, isCpByte}
+use Rattle.frame.specs.Roles.{isData, isTmcc, isAc, isCpByte}
 use Rattle.carrier_lists.specs.Written.{Room, Collected, DataRoom, dataIn, continualIn, Continual}
 
 pub chosen-fewer : (t : ℕ → Bool) (k : ℕ) (xs : List ℕ) → length (chosen t k xs) ≤ length xs

@@ -8,7 +8,6 @@ use native.Mathlib.Omega.{arith}
 use native.Mathlib.Numerals.{add-one}
 use borrow.Author.Tests.{eq-eqb, ne-eqb}
 use lib.Dec.{eqb, lit<}
-use lib.ListN.{length}
 use Rattle.lists.specs.Lists.{range, select, chosen}
 use Rattle.lists.specs.Select.{select-append, select-none, Ascending, select-ascending}
 use Rattle.lists.specs.Truth.{same, same-true}

@@ -1,28 +1,26 @@
 -- The data list holds exactly the carriers of role data, segment by segment, each segment's ascending and as many as its mode says.
 -- Assumes nothing.
 use Prim.Native.Nat.{ℕ, _+_, _*_, _<_}
-use mathlib.Core.List.{List, [], _∷_, append-nil, Perm, Perm·symm}
+use mathlib.Core.List.{List, Perm, Perm·symm}
 use mathlib.Core.Path.{_≡_, refl, sym, ap, _∙_}
-use native.Mathlib.Omega.{arith}
-use native.Mathlib.Nat.{zero-mul}
 use borrow.Author.Tests.{eqb-true}
 use lib.Dec.{eqb}
-use lib.ListN.{length, getD}
+use lib.ListN.{length}
 use Rattle.lists.specs.Lists.{range, joined, chosen}
 use Rattle.lists.specs.Tests.{allBelow-at, memb}
-use Rattle.lists.specs.Select.{getD-upTo, length-joined, joined-perm, length-chosen, count-same, chosen-append, chosen-joined, Ascending, chosen-ascending, passes, sorted-perm}
+use Rattle.lists.specs.Select.{getD-upTo, length-joined, joined-perm, length-chosen, count-same, Ascending, chosen-ascending, passes, sorted-perm}
 use Rattle.lists.specs.Truth.{same, same-true, always5-at}
 use Rattle.params.specs.declared.Mode.{Mode}
 use Rattle.params.specs.Params.{carriersPerSegment, dataCarriersPerSegment}
 use Rattle.tables.specs.Places.{tmccOf, ac1Of, ac2Of, isSp, isCp, claims, one}
 use Rattle.tables.specs.Rule.{full}
 use Rattle.ofdm.specs.Band.{order, placeOf}
-use Rattle.ofdm.specs.Laws.{place-of-segment}
-use Rattle.frame.specs.declared.CarrierRole.the-variants.{Data, EdgeCp}
+use Rattle.frame.specs.declared.CarrierRole.the-variants.{Data}
 use Rattle.frame.specs.Roles.{OfdmSegment, roleByte, placeRole, segmentRoles, bandRoles, wideSegment, wide, isData}
 use Rattle.carrier_lists.specs.CarrierLists.{segmentData, dataList}
 use Rattle.frame.specs.Rules.{carriersOf}
-use Rattle.frame.specs.OneRole.{first, segment-length, role-carriers, wide-rows}
+use Rattle.frame.specs.OneRole.{first, role-carriers, wide-rows}
+use Rattle.frame.specs.BySegment.{by-segment}
 
 -- a place is data where no other role claims it
 data-place : (mode : Mode) (s : OfdmSegment) (phase p : ℕ)
@@ -59,13 +57,8 @@ order-perm =
 module _ (mode : Mode) (phase : ℕ) (kinds : List ℕ) where
   -- the band's data carriers, segment by segment from the lowest place upward
   parts-chosen : chosen isData 0 (bandRoles mode phase (wide kinds)) ≡ joined (segmentData mode phase kinds) order
-  unfolding bandRoles segmentData
-  parts-chosen =
-      chosen-append isData 0 (joined (segmentRoles mode phase) (wide kinds)) (roleByte EdgeCp ∷ [])
-      ∙ (append-nil (chosen isData 0 (joined (segmentRoles mode phase) (wide kinds)))
-      ∙ (ap (λ (n : ℕ). chosen isData n (joined (segmentRoles mode phase) (wide kinds))) (sym (zero-mul (carriersPerSegment mode)))
-      ∙ chosen-joined isData (λ seg. segmentRoles mode phase (wideSegment kinds seg)) (carriersPerSegment mode) placeOf order 0
-      (λ i l. segment-length mode phase (wideSegment kinds (getD order i 0))) (λ i l. place-of-segment i l ∙ omega arith)))
+  unfolding segmentData
+  parts-chosen = by-segment isData refl mode phase kinds
 
   module _ (in-cycle : phase < 4) where
     -- the data list has thirteen times nc carriers

@@ -1,7 +1,7 @@
 -- The pilot grid (chanest.rs, the first two parts of `estimate`; document 01, "The grid"): every third carrier of the coherent segments, and
 -- the continual pilot next above a coherent segment whose upper neighbour is not coherent. The rest of the grid keeps its contents.
 -- Definitions only.
-use Prim.Native.Nat.{ℕ, zero, suc, _+_, _-_, _*_, _/_, _%_}
+use Prim.Native.Nat.{ℕ, _+_, _-_, _*_, _/_, _%_}
 use mathlib.Core.Bool.{Bool, cond, _&&_}
 use mathlib.Core.List.{List}
 use mathlib.Core.Path.{_≡_}

@@ -1,9 +1,9 @@
 -- The words of the contracts inside this crate.
 -- Definitions only.
-use Prim.Native.Nat.{ℕ, suc, _+_, _-_, _*_, _≤_, _<_}
+use Prim.Native.Nat.{ℕ, _+_, _-_, _*_, _≤_, _<_}
 use mathlib.Core.List.{List, map}
 use mathlib.Core.Path.{_≡_}
-use lib.ListN.{getD, length}
+use lib.ListN.{length}
 use lib.Ieee.{Float, binary32}
 use Rattle.lists.specs.Lists.{upTo}
 use Rattle.params.specs.declared.Mode.{Mode}

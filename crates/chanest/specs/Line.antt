@@ -1,6 +1,5 @@
 -- A straight line through points by least squares, at 0 (chanest.rs, `ls_line_at_zero`). Real sums start at -0.0, complex sums at +0.0.
 -- Definitions only.
-use Prim.Native.Nat.{ℕ}
 use mathlib.Core.Bool.{cond}
 use mathlib.Core.List.{List, [], _∷_, map}
 use lib.IntN.{pos}

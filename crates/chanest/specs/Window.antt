@@ -1,7 +1,7 @@
 -- The spectra of a window around the current one, and a carrier's pilots in them (chanest.rs, `estimate`; document 01, "The grid"). The
 -- spectra count as consecutive symbols, so an offset from the current symbol is the difference of two numbers of spectra.
 -- Definitions only.
-use Prim.Native.Nat.{ℕ, zero, suc, _+_, _-_, _*_}
+use Prim.Native.Nat.{ℕ, suc, _+_, _-_, _*_}
 use mathlib.Core.Bool.{cond}
 use mathlib.Core.List.{List, [], _∷_, map}
 use lib.Dec.{ltb}

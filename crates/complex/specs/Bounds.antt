@@ -197,7 +197,7 @@ module _ (k : ℕ) (K : k ≤ most) where
   pilot-energy-sum-gain xs ys N h =
       total-scaled binary32 most k 0 512 pilotEnergyLevel _ _ xs ys K tt (omega arith) (zero-at binary32 (many 0 pilotEnergyLevel) k) h
 
-  -- the share of a phase is the same bit for bit
+  -- the metric of a phase is the same bit for bit
   pub pilot-quotient-gain : (x y d e : Float) → Scaled (many 512 pilotStepLevel) k x y → Scaled (many 512 pilotEnergyLevel) k d e
       → div binary32 x d ≡ div binary32 y e
   pilot-quotient-gain x y d e h g =

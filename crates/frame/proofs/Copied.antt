@@ -1,20 +1,20 @@
 -- Kinds that are read while they are tested: what is read is the kinds' front, and the rest decides the test.
 -- Assumes nothing.
 use Prim.Native.Nat.{ℕ, _+_, _<_, _≤_}
-use mathlib.Core.Bool.{Bool, true, false, _&&_}
+use mathlib.Core.Bool.{Bool, true, false}
 use mathlib.Core.List.{List}
-use mathlib.Core.Path.{_≡_, refl, sym, ap, _∙_}
+use mathlib.Core.Path.{_≡_, sym, ap, _∙_}
 use native.Mathlib.Numerals.{add-one}
 use native.Mathlib.Omega.{arith}
 use borrow.Author.Tests.{eq-eqb, ne-eqb, le-leb, lt-leb}
-use lib.Dec.{eqb, leb}
+use lib.Dec.{leb}
 use lib.ListN.{length, getD, take, drop, set, length-set, drop-of-length-le}
 use lib.Seq.{take-suc, take-suc-set, take-all}
 use Rattle.lists.specs.Tests.{allIn, allIn-stop, allIn-pass}
 use Rattle.params.specs.declared.Mode.{Mode}
 use Rattle.params.specs.declared.ModeNumber.{ModeNumber}
 use Rattle.params.specs.declared.ModeNumber.the-variants.{Known, Unknown}
-use Rattle.frame.specs.Operations.{areKinds, layoutCode}
+use Rattle.frame.specs.Operations.{layoutCode}
 use Rattle.frame.specs.Written.{AcceptedKinds, AcceptedLayout}
 
 never : {A : Type 0} → false ≡ true → A

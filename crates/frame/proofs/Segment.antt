@@ -1,13 +1,13 @@
 -- A segment's pilots, with its rows of the tables marked over them, are its roles: where no two roles meet, the order does not matter.
 -- Assumes nothing.
 use Prim.Native.Nat.{ℕ, _+_, _≤_, _<_}
-use mathlib.Core.Bool.{Bool, true, false, cond}
+use mathlib.Core.Bool.{Bool, true, cond}
 use mathlib.Core.List.{List}
 use mathlib.Core.Path.{_≡_, refl, sym, ap, _∙_}
 use native.Mathlib.Omega.{arith}
 use borrow.Author.Tests.{le-leb, eqb-true}
 use lib.Dec.{leb, eqb}
-use lib.ListN.{length, getD, take}
+use lib.ListN.{length, getD}
 use lib.Seq.{getD-take, ext-getD}
 use Rattle.lists.specs.Lists.{upTo}
 use Rattle.lists.specs.Tests.{memb}

@@ -1,6 +1,7 @@
 pub mod Roles
 pub mod Rules
 pub mod OneRole
+pub mod BySegment
 pub mod RowsLaid
 pub mod Operations
 pub mod Written

@@ -109,7 +109,7 @@ place-ruled mode s phase p (Ac Ac1) = refl
 place-ruled mode s phase p (Ac Ac2) = refl
 place-ruled mode s phase p EdgeCp = refl
 
-place-has : (mode : Mode) (s : OfdmSegment) (phase p : ℕ) (r : CarrierRole) → s .row < 13 → phase < 4 → p < carriersPerSegment mode
+pub place-has : (mode : Mode) (s : OfdmSegment) (phase p : ℕ) (r : CarrierRole) → s .row < 13 → phase < 4 → p < carriersPerSegment mode
     → placeHas mode s phase p r ≡ eqb (roleByte (placeRole mode s phase p)) (roleByte r)
 unfolding placeRole claims
 place-has mode s phase p r in-table in-cycle h =

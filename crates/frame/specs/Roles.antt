@@ -12,7 +12,6 @@ use Rattle.params.specs.declared.SegmentKind.{SegmentKind}
 use Rattle.params.specs.Params.{carriersPerSegment, kindFrom}
 use Rattle.tables.specs.Places.{tmccOf, ac1Of, ac2Of, isSp, isCp}
 use Rattle.ofdm.specs.Band.{order}
-use Rattle.frame.specs.declared.AcKind.{AcKind}
 use Rattle.frame.specs.declared.AcKind.the-variants.{Ac1, Ac2}
 use Rattle.frame.specs.declared.CarrierRole.{CarrierRole}
 use Rattle.frame.specs.declared.CarrierRole.the-variants.{Data, Sp, Cp, Tmcc, Ac, EdgeCp}

@@ -17,6 +17,10 @@ use params::GuardInterval;
 use params::Mode;
 use params::ModeNumber;
 
+// All modes, and all guards.
+pub const MODES: [u8; 3] = [1, 2, 3];
+pub const GUARDS: [u8; 4] = [4, 8, 16, 32];
+
 pub enum SamplesNeeded {
     Samples(usize),
     Refused(u8),

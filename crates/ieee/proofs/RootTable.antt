@@ -1,7 +1,7 @@
 -- The table of seeds is the whole roots of 64 to 255, eight to a row, as the definition computes them.
 -- Assumes nothing.
 use mathlib.Core.List.{List, [], _∷_}
-use mathlib.Core.Path.{_≡_, refl, ap, sym, _∙_, subst}
+use mathlib.Core.Path.{_≡_, ap, sym, _∙_, subst}
 use Prim.Native.Nat.{ℕ, zero, suc, _+_, _-_, _*_, _/_, _%_, _≤_, _<_}
 use native.Mathlib.Nat.{le-of-suc-le-suc, not-suc-le-zero, add-zero, add-mul, mul-add, lt-of-le-of-lt}
 use native.Mathlib.Omega.{arith}

@@ -1,14 +1,14 @@
 -- Laws for loops that write a lent buffer from the front: entry by entry, part by part, or only the entries that pass a test.
 -- Assumes nothing.
 use Prim.Native.Nat.{ℕ, zero, suc, _+_, _*_, _-_, _≤_, _<_}
-use mathlib.Core.Bool.{Bool, true, false, cond}
+use mathlib.Core.Bool.{Bool, true, false}
 use mathlib.Core.List.{List, [], _∷_, _++_, append-assoc, append-nil, map}
-use mathlib.Core.Path.{_≡_, refl, sym, ap, subst, _∙_}
+use mathlib.Core.Path.{_≡_, refl, sym, ap, _∙_}
 use native.Mathlib.Omega.{arith}
 use native.Mathlib.Nat.{zero-mul, suc-mul, add-suc, le-of-suc-le-suc, not-suc-le-zero}
 use native.Mathlib.Numerals.{add-one}
 use borrow.Rule.Slice.PartMut.{putMid}
-use lib.ListN.{length, getD, take, drop, set, length-append, drop-of-length-le}
+use lib.ListN.{length, getD, take, drop, set, drop-of-length-le}
 use lib.Seq.{set-at, drop-cons, take-suc, take-at, drop-at, drop-drop, take-length, length-take-le, drop-append-add, sets, sets-eq}
 use Rattle.lists.specs.Lists.{upTo, range, joined, chosen}
 use Rattle.lists.specs.Select.{length-upTo, length-joined}

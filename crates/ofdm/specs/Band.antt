@@ -1,6 +1,6 @@
 -- Segments by their place in the band (ARIB STD-B31, Figure 3-32), and a carrier's FFT bin (3.14.1).
 -- Assumes nothing.
-use Prim.Native.Nat.{ℕ, _+_, _*_, _-_, _/_, _%_}
+use Prim.Native.Nat.{ℕ, _+_, _-_, _/_, _%_}
 use mathlib.Core.Bool.{cond}
 use mathlib.Core.List.{List, [], _∷_}
 use lib.Dec.{ltb}
@@ -8,7 +8,7 @@ use lib.ListN.{getD}
 use Rattle.params.specs.declared.Mode.{Mode}
 use Rattle.params.specs.declared.ModeNumber.{ModeNumber}
 use Rattle.params.specs.declared.ModeNumber.the-variants.{Known, Unknown}
-use Rattle.params.specs.Params.{carriersPerSegment, totalCarriers, fftSize}
+use Rattle.params.specs.Params.{totalCarriers, fftSize}
 use Rattle.ofdm.specs.declared.BinLookup.{BinLookup}
 use Rattle.ofdm.specs.declared.BinLookup.the-variants.{Bin, Refused}
 

@@ -1,14 +1,14 @@
 -- A band that is written segment by segment: bounds of its parts, the whole once the edge is written.
 -- Assumes nothing.
-use Prim.Native.Nat.{ℕ, zero, suc, _+_, _*_, _-_, _≤_, _<_}
+use Prim.Native.Nat.{ℕ, _+_, _*_, _-_, _≤_, _<_}
 use mathlib.Core.List.{List, [], _∷_, _++_}
-use mathlib.Core.Path.{_≡_, refl, sym, ap, subst, _∙_}
+use mathlib.Core.Path.{_≡_, refl, sym, _∙_}
 use native.Mathlib.Nat.{suc-mul, zero-mul, mul-le-mul-right}
 use native.Mathlib.Omega.{arith}
 use borrow.Rule.Slice.PartMut.{midOf, putMid, mid-len}
 use lib.ListN.{length, getD, take, drop, set}
 use Rattle.lists.specs.Lists.{joined}
-use Rattle.lists.specs.Fill.{parts-again, parts-last, joined-map}
+use Rattle.lists.specs.Fill.{parts-again, parts-last}
 use Rattle.params.specs.declared.Mode.{Mode}
 use Rattle.params.specs.Params.{carriersPerSegment, totalCarriers}
 use Rattle.params.specs.Laws.{sized}

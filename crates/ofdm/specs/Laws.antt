@@ -2,14 +2,13 @@
 -- into its place in the band and its place in the segment.
 -- Assumes nothing.
 use Prim.Native.Nat.{ℕ, _+_, _*_, _<_, _≤_}
-use mathlib.Core.Bool.{Bool, true}
 use mathlib.Core.Path.{_≡_, refl}
 use native.Mathlib.Omega.{arith}
 use native.Mathlib.Nat.{suc-mul, mul-le-mul-right}
 use borrow.Author.Tests.{ltb-true, eqb-true}
 use lib.Arith.{digits-lt}
 use lib.Dec.{eqb, ltb}
-use Rattle.lists.specs.Tests.{allBelow, allBelow-at}
+use Rattle.lists.specs.Tests.{allBelow-at}
 use Rattle.params.specs.declared.Mode.{Mode}
 use Rattle.params.specs.Params.{carriersPerSegment, totalCarriers}
 use Rattle.params.specs.Laws.{sized}

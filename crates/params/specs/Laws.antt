@@ -1,6 +1,6 @@
 -- What callers use of the sizes: bounds, how they hang together, and that a code names what it is the code of.
 -- Assumes nothing.
-use Prim.Native.Nat.{ℕ, _+_, _*_, _≤_}
+use Prim.Native.Nat.{_+_, _*_, _≤_}
 use mathlib.Core.Path.{_≡_, refl}
 use lib.Dec.{lit≤}
 use Rattle.params.specs.declared.Mode.{Mode}

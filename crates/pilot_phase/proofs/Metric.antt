@@ -28,7 +28,7 @@ use Rattle.pilot_phase.specs.declared.Run.{Run}
 use Rattle.pilot_phase.specs.PilotPhase.{pilots, twelveApart, productSum, energySum, phaseMetric}
 use Rattle.pilot_phase.specs.Inner.{twelfths, Parted, Walked, Walkable, Walks, Spectrum}
 use Rattle.pilot_phase.specs.Pilots.{twelves}
-use Rattle.pilot_phase.proofs.Pilots.{segmentPilots, by-segment, coherent-pilots, differential-pilots}
+use Rattle.pilot_phase.proofs.Pilots.{segmentPilots, pilots-by-segment, coherent-pilots, differential-pilots}
 use Rattle.pilot_phase.proofs.Walking.{walk-apart}
 
 -- no pilot yet
@@ -92,7 +92,7 @@ module _ {mode : Mode} {kinds : List ℕ} {y : List Float} {phase c : ℕ} where
       ks = twelveApart (pilots mode kinds phase)
 
       all : before mode kinds phase place ≡ pilots mode kinds phase
-      all = let z : place ≡ 13 = omega (arith, w .passed) in rw z (sym (by-segment mode kinds phase))
+      all = let z : place ≡ 13 = omega (arith, w .passed) in rw z (sym (pilots-by-segment mode kinds phase))
 
       sum : of32 (run .sum) ≡ productSum mode (pairAt y) ks
       sum = rw all at (w .walked .sum)

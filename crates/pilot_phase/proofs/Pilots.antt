@@ -3,14 +3,14 @@
 use Prim.Native.Nat.{ℕ, zero, suc, suc-le-suc, _+_, _*_, _-_, _/_, _%_, _<_}
 use mathlib.Core.Bool.{Bool, true, false, cond}
 use mathlib.Core.List.{List, [], _∷_, _++_, append-nil}
-use mathlib.Core.Path.{_≡_, refl, sym, ap, _∙_}
-use native.Mathlib.Nat.{zero-mul, le-of-suc-le-suc, not-suc-le-zero}
+use mathlib.Core.Path.{_≡_, refl, ap, _∙_}
+use native.Mathlib.Nat.{le-of-suc-le-suc, not-suc-le-zero}
 use native.Mathlib.Omega.{arith}
 use borrow.Author.Tests.{eqb-true, eqb-false, eq-eqb, ne-eqb}
 use lib.Dec.{eqb}
 use lib.ListN.{length, getD, length-append}
 use Rattle.lists.specs.Lists.{upTo, joined, chosen}
-use Rattle.lists.specs.Select.{length-upTo, chosen-append, chosen-joined}
+use Rattle.lists.specs.Select.{length-upTo}
 use Rattle.params.specs.declared.Mode.{Mode}
 use Rattle.params.specs.declared.SegmentKind.{SegmentKind}
 use Rattle.params.specs.declared.SegmentKind.the-variants.{Coherent, Differential}
@@ -18,10 +18,9 @@ use Rattle.params.specs.Params.{carriersPerSegment, kindFrom}
 use Rattle.params.specs.Laws.{sized}
 use Rattle.tables.specs.Places.{isSp}
 use Rattle.ofdm.specs.Band.{order, placeOf}
-use Rattle.ofdm.specs.Laws.{place-below, segment-of-place, place-of-segment, segment-below}
-use Rattle.frame.specs.declared.CarrierRole.the-variants.{EdgeCp}
-use Rattle.frame.specs.Roles.{roleByte, placeRole, segmentRoles, bandRoles, wideSegment, wide}
-use Rattle.frame.specs.OneRole.{segment-length}
+use Rattle.ofdm.specs.Laws.{place-below, segment-of-place, segment-below}
+use Rattle.frame.specs.Roles.{roleByte, placeRole, segmentRoles, wideSegment}
+use Rattle.frame.specs.BySegment.{by-segment}
 use Rattle.pilot_phase.specs.PilotPhase.{pilots}
 use Rattle.pilot_phase.specs.Inner.{twelfths, somePilots}
 use Rattle.pilot_phase.specs.Pilots.{isPilot, place-pilot, twelves, last-chosen}
@@ -53,14 +52,9 @@ module _ (mode : Mode) (kinds : List ℕ) (phase : ℕ) where
   segmentPilots seg = chosen isPilot (placeOf seg * carriersPerSegment mode) (segmentRoles mode phase (wideSegment kinds seg))
 
   -- those of the band, segment by segment from the lowest place upward
-  pub by-segment : pilots mode kinds phase ≡ joined segmentPilots order
-  unfolding pilots bandRoles segmentPilots
-  by-segment =
-      chosen-append isPilot 0 (joined (segmentRoles mode phase) (wide kinds)) (roleByte EdgeCp ∷ [])
-      ∙ (append-nil (chosen isPilot 0 (joined (segmentRoles mode phase) (wide kinds)))
-      ∙ (ap (λ (n : ℕ). chosen isPilot n (joined (segmentRoles mode phase) (wide kinds))) (sym (zero-mul (carriersPerSegment mode)))
-      ∙ chosen-joined isPilot (λ seg. segmentRoles mode phase (wideSegment kinds seg)) (carriersPerSegment mode) placeOf order 0
-      (λ i l. segment-length mode phase (wideSegment kinds (getD order i 0))) (λ i l. place-of-segment i l ∙ omega arith)))
+  pub pilots-by-segment : pilots mode kinds phase ≡ joined segmentPilots order
+  unfolding pilots segmentPilots
+  pilots-by-segment = by-segment isPilot refl mode phase kinds
 
   module _ (seg : ℕ) where
     abbrev rule : ℕ → Bool
@@ -99,9 +93,9 @@ module _ (mode : Mode) (kinds : List ℕ) where
       let size = ap length part ∙ length-upTo _ (carriersPerSegment mode / 12) in
       let here : 0 < length (segmentPilots mode kinds 0 (getD order (placeOf seg) 0)) = rw (segment-of-place seg h) (omega (arith, size, sized mode .carriers-low)) in
       let some = joined-some (segmentPilots mode kinds 0) order (placeOf seg) (place-below seg h) here in
-      rw (by-segment mode kinds 0, ne-eqb (length (joined (segmentPilots mode kinds 0) order)) 0 (λ z. omega arith))
+      rw (pilots-by-segment mode kinds 0, ne-eqb (length (joined (segmentPilots mode kinds 0) order)) 0 (λ z. omega arith))
 
   pub no-pilots : ((seg : ℕ) → seg < 13 → getD kinds seg 0 ≡ 0 → ⊥) → false ≡ somePilots mode kinds
   no-pilots h =
       let none = joined-none (segmentPilots mode kinds 0) order (λ i l. differential-pilots mode kinds 0 (getD order i 0) (rw (ne-eqb (getD kinds (getD order i 0) 0) 0 (h (getD order i 0) (segment-below i l))))) in
-      rw (by-segment mode kinds 0, none)
+      rw (pilots-by-segment mode kinds 0, none)

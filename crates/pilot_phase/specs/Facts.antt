@@ -236,8 +236,8 @@ apart-member r low a (x ∷ y ∷ ks) h l m n = by (eqb x a) refl m (apart-membe
         keep (eqb y (x + 12)) e (later m (rw (ne-eqb x (a + 12) (λ g. omega arith)) at n))
 
 -- two pilots 12 carriers apart are a pair, whatever segments they lie in: also across the border of two coherent segments
-pub pairs-counted : (mode : Mode) (kinds : List ℕ) (phase a : ℕ) → phase < 4 → memb a (pilots mode kinds phase) ≡ true → memb (a + 12) (pilots mode kinds phase) ≡ true
+pub pairs-counted : (mode : Mode) (kinds : List ℕ) (phase a : ℕ) → memb a (pilots mode kinds phase) ≡ true → memb (a + 12) (pilots mode kinds phase) ≡ true
     → memb a (twelveApart (pilots mode kinds phase)) ≡ true
 unfolding pilots
-pairs-counted mode kinds phase a h m n =
+pairs-counted mode kinds phase a m n =
     apart-member (3 * phase) 0 a (pilots mode kinds phase) (chosen-ascending isPilot 0 (bandRoles mode phase (wide kinds))) (pilots-leave mode kinds phase) m n

@@ -3,13 +3,13 @@
 -- each spectrum, turned back by its symbol number, is its vote.
 -- Assumes nothing.
 use Prim.Native.Nat.{ℕ, zero, suc, _+_, _-_, _*_, _%_}
-use mathlib.Core.Bool.{Bool, true, false, cond}
+use mathlib.Core.Bool.{cond}
 use mathlib.Core.List.{List, [], _∷_, map}
 use mathlib.Core.Path.{_≡_}
 use lib.Dec.{eqb, leb, ltb}
 use lib.IntN.{pos}
 use lib.ListN.{getD, length}
-use lib.Ieee.{Float, binary32, mul, div, lt, neg, ofInt, ofBits}
+use lib.Ieee.{Float, binary32, mul, div, lt, ofInt, ofBits}
 use Rattle.ieee.specs.Constants.{plusZero}
 use Rattle.ieee.specs.Sums.{total}
 use Rattle.lists.specs.Lists.{upTo, chosen}

@@ -2,13 +2,13 @@
 -- is the edge's sign; and the signs obey the polynomial.
 -- Assumes nothing.
 use Prim.Native.Nat.{ℕ, zero, suc, _+_, _*_, _<_}
-use mathlib.Core.List.{List, [], _∷_}
+use mathlib.Core.List.{List}
 use mathlib.Core.Path.{_≡_, refl}
 use native.Mathlib.Omega.{arith}
 use native.Mathlib.Nat.{add-comm, zero-add, suc-add, suc-mul}
 use lib.Dec.{lit<}
 use lib.Ieee.{binary32, ofBits, div}
-use lib.ListN.{getD, take}
+use lib.ListN.{take}
 use lib.Seq.{getD-take}
 use Rattle.lists.specs.Tests.{values, agree}
 use Rattle.params.specs.declared.Mode.{Mode}

@@ -15,7 +15,7 @@ pub record Started (r : BinSums) : Type 0 where
   pub num : of32 (r .num) ≡ pair (plusZero binary32) (plusZero binary32)
   pub den : r .den ≡ plusZero binary32
 
--- a product p more
+-- a symbol more: its value x, and y of the symbol before
 pub record Stepped (s : BinSums) (x y : Pair) (r : BinSums) : Type 0 where
   pub num : of32 (r .num) ≡ plus binary32 (of32 (s .num)) (squareOf (product binary32 x (conjugate y)))
   pub den : r .den ≡ add binary32 (s .den) (sizeOf (product binary32 x (conjugate y)))

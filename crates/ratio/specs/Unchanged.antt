@@ -8,20 +8,19 @@ use mathlib.Core.Logic.{_⊎_, inl, inr}
 use mathlib.Core.Path.{_≡_, refl, sym, ap, _∙_}
 use native.Mathlib.Nat.{add-zero}
 use native.Mathlib.Omega.{arith}
-use lib.Dec.{T}
 use lib.ListN.{length, length-map}
-use lib.Ieee.{Float, binary32, binary64, unlike, lt, div}
+use lib.Ieee.{Float, binary32, binary64, unlike}
 use Rattle.ieee.specs.Constants.{plusZero}
 use Rattle.ieee.specs.Zeros.{canon}
-use Rattle.ieee.specs.Levels.{Level, Scaled}
+use Rattle.ieee.specs.Levels.{Scaled}
 use Rattle.ieee.specs.Sums.{total, Each, each-map, each-equal, total-alike}
 use Rattle.lists.specs.Select.{upTo-same}
-use Rattle.complex.specs.Complex.{Pair, pair, product, conjugate, squaredSize, norm32}
+use Rattle.complex.specs.Complex.{Pair, pair, norm32}
 use Rattle.complex.specs.Turns.{turned, negated, Alike, turned-product, negated-product, square-re, square-im, alike-size, norm32-same}
 use Rattle.complex.specs.Gains.{BothScaled}
 use Rattle.complex.specs.Totals.{totals, reals, imaginaries, totals-parts}
-use Rattle.complex.specs.Bounds.{most, WholePair, amplified, partLevel, stepLevel, termLevel, binLevel, part-gain, step-gain, square-gain, size-gain, bin-sum-gain, bin-energy-gain, ratio-gain, above-zero-gain}
-use Rattle.spectra.specs.Changes.{Change, turnIf, gainBy, changedPair, changedFrom, Changed, Allowed, Wholes, WholePairs, changed-bin, whole-bin, length-bin}
+use Rattle.complex.specs.Bounds.{most, WholePair, amplified, stepLevel, termLevel, binLevel, part-gain, step-gain, square-gain, size-gain, bin-sum-gain, bin-energy-gain, ratio-gain, above-zero-gain}
+use Rattle.spectra.specs.Changes.{Change, turnIf, gainBy, changedFrom, Changed, Allowed, WholePairs, changed-bin, whole-bin, length-bin}
 use Rattle.spectra.specs.Spectra.{binPairs, spectraIn}
 use Rattle.ratio.specs.Ratio.{stepsFrom, steps, squareOf, sizeOf, correlation, energy, guarded, ratioOf, ratios}
 

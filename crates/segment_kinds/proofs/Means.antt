@@ -3,15 +3,15 @@
 use Prim.Native.Nat.{ℕ, zero, suc, _+_, _≤_, _<_}
 use mathlib.Core.Bool.{Bool, true, false, cond}
 use mathlib.Core.List.{List, [], _∷_, _++_, map-append}
-use mathlib.Core.Path.{_≡_, refl, _∙_}
+use mathlib.Core.Path.{_≡_, _∙_}
 use native.Mathlib.Omega.{arith}
 use lib.Dec.{T}
 use lib.IntN.{pos}
 use lib.ListN.{length, getD, length-append}
-use lib.Ieee.{Float, Format, nan, binary32, div, ofInt, inFloat}
+use lib.Ieee.{Float, nan, binary32, div, ofInt, inFloat}
 use Rattle.ieee.specs.Differences.{held-exactly}
 use Rattle.ieee.specs.Constants.{minusZero}
-use Rattle.ieee.specs.Sums.{total, total-append}
+use Rattle.ieee.specs.Sums.{total-append}
 use Rattle.lists.specs.Lists.{select}
 use Rattle.lists.specs.Select.{select-append}
 use Rattle.segment_kinds.specs.declared.Mean.{Mean}

@@ -1,12 +1,11 @@
 -- Lines that are stored piece by piece and one behind another.
 -- Assumes nothing.
 use Prim.Native.Nat.{ℕ, _+_, _*_, _-_, _<_}
-use mathlib.Core.List.{List, [], _∷_, _++_, append-nil}
+use mathlib.Core.List.{List, _++_}
 use mathlib.Core.Path.{_≡_, _∙_}
 use native.Mathlib.Numerals.{add-one}
 use native.Mathlib.Omega.{arith}
-use lib.ListN.{length, getD, take}
-use lib.Seq.{take-suc}
+use lib.ListN.{getD}
 use Rattle.lists.specs.Lists.{joined, range}
 use Rattle.lists.specs.Fill.{joined-range}
 use Rattle.params.specs.declared.Mode.{Mode}

@@ -1,11 +1,11 @@
 -- The segment list of document 01: what is printed for a line of the input, and for the whole input, as bytes.
 -- Assumes nothing.
-use Prim.Native.Nat.{ℕ, _+_, _*_, _-_, _/_, _%_}
+use Prim.Native.Nat.{ℕ, _+_, _*_, _-_}
 use mathlib.Core.Bool.{Bool, cond, _&&_, _||_}
 use mathlib.Core.List.{List, [], _∷_, _++_, map}
 use lib.Dec.{eqb, leb, ltb}
 use lib.ListN.{length, getD, drop}
-use Rattle.lists.specs.Lists.{joined, range, select}
+use Rattle.lists.specs.Lists.{joined, range}
 use Rattle.lists.specs.Refusals.{unless}
 use Rattle.lists.specs.Tests.{allIn}
 use Rattle.params.specs.declared.Mode.{Mode}
@@ -14,7 +14,6 @@ use Rattle.params.specs.declared.ModeNumber.the-variants.{Known, Unknown}
 use Rattle.params.specs.Params.{modeFrom, carriersPerSegment, totalCarriers}
 use Rattle.ofdm.specs.Band.{segmentAt}
 use Rattle.frame.specs.declared.AcKind.the-variants.{Ac1, Ac2}
-use Rattle.frame.specs.declared.CarrierRole.{CarrierRole}
 use Rattle.frame.specs.declared.CarrierRole.the-variants.{Data, Sp, Cp, Tmcc, Ac}
 use Rattle.frame.specs.Roles.{segmentRoles, wideSegment}
 use Rattle.role_counts.specs.Counts.{countRole}

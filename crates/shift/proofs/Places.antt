@@ -2,7 +2,7 @@
 -- Assumes nothing.
 use Prim.Native.Nat.{ℕ, zero, suc, _+_, _*_, _-_, _%_, _≤_, _<_}
 use mathlib.Core.List.{List, map-congr-left}
-use mathlib.Core.Path.{_≡_, sym, ap, _∙_}
+use mathlib.Core.Path.{_≡_, sym, ap}
 use native.Mathlib.Decide.{decLt}
 use native.Mathlib.Nat.{add-mod-right, add-mul-mod-self-right, mul-suc, suc-mul}
 use native.Mathlib.Omega.{arith}

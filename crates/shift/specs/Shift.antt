@@ -1,7 +1,7 @@
 -- The shift (acquire.rs, `integer_cfo`; document 01, "Ratios, shift and kinds"): the pattern of AC1 carriers and the edge is laid over the
 -- ratios at every shift from -bound to bound, and the greatest sum wins.
 -- Assumes nothing.
-use Prim.Native.Nat.{ℕ, zero, suc, _+_, _-_, _*_, _/_, _%_}
+use Prim.Native.Nat.{ℕ, suc, _+_, _-_, _*_, _/_, _%_}
 use mathlib.Core.Bool.{cond}
 use mathlib.Core.List.{List, [], _∷_, _++_, map}
 use mathlib.Core.Path.{_≡_}

@@ -2,8 +2,8 @@
 -- Assumes nothing.
 use Prim.Native.Nat.{ℕ, _<_}
 use mathlib.Core.Bool.{Bool, true, false, cond}
-use mathlib.Core.List.{List, [], _∷_, Perm, Perm·refl, Perm·nil, Perm·cons, Perm·swap, Perm·trans, Perm·symm}
-use mathlib.Core.Path.{_≡_, refl, subst}
+use mathlib.Core.List.{List, [], _∷_, Perm, Perm·refl, Perm·nil, Perm·cons, Perm·swap, Perm·trans}
+use mathlib.Core.Path.{_≡_, refl}
 use borrow.Author.Tests.{ltb-true}
 use lib.Dec.{leb, ltb}
 use lib.ListN.{length, getD}

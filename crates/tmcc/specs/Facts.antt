@@ -3,10 +3,10 @@
 -- Assumes nothing.
 use Prim.Native.Nat.{ℕ, suc, suc-le-suc, _+_, _*_, _/_, _≤_, _<_}
 use mathlib.Core.Bool.{Bool, true, false, cond, _&&_}
-use mathlib.Core.List.{List, [], _∷_, map, append-nil}
+use mathlib.Core.List.{List, [], _∷_, map}
 use mathlib.Core.Path.{_≡_, refl, sym, ap, _∙_}
 use native.Mathlib.Decide.{decLt}
-use native.Mathlib.Nat.{zero-add, zero-mul}
+use native.Mathlib.Nat.{zero-add}
 use native.Mathlib.Omega.{arith}
 use borrow.Author.Tests.{eq-eqb, ne-eqb, le-leb, leb-true, ltb-true}
 use lib.Arith.{digits-div}
@@ -17,21 +17,22 @@ use Rattle.ieee.specs.Constants.{minusZero}
 use Rattle.ieee.specs.Sums.{total}
 use Rattle.lists.specs.Lists.{upTo, range, joined, select, chosen}
 use Rattle.lists.specs.Fill.{joined-same}
-use Rattle.lists.specs.Select.{length-upTo, getD-upTo, select-append, chosen-append, chosen-joined}
+use Rattle.lists.specs.Select.{length-upTo, getD-upTo, select-append}
 use Rattle.lists.specs.Tests.{memb, allBelow, allBelow-at, both-left, both-right}
-use Rattle.lists.specs.Truth.{same, same-true, always5-at}
 use Rattle.params.specs.declared.Mode.{Mode}
 use Rattle.params.specs.declared.Mode.the-variants.{M1, M2, M3}
 use Rattle.params.specs.declared.SegmentKind.{SegmentKind}
 use Rattle.params.specs.declared.SegmentKind.the-variants.{Coherent, Differential}
 use Rattle.params.specs.Params.{carriersPerSegment, kindFrom}
-use Rattle.tables.specs.Places.{tmccOf, ac1Of, ac2Of, isSp, isCp, claims, one}
-use Rattle.tables.specs.Rule.{apart, tmcc-below}
-use Rattle.ofdm.specs.Band.{order, segmentAt, placeOf}
+use Rattle.tables.specs.Places.{tmccOf}
+use Rattle.tables.specs.Rule.{tmcc-below}
+use Rattle.ofdm.specs.Band.{segmentAt, placeOf}
 use Rattle.ofdm.specs.Laws.{place-of-segment, segment-below}
-use Rattle.frame.specs.declared.CarrierRole.the-variants.{EdgeCp}
 use Rattle.frame.specs.Roles.{OfdmSegment, roleByte, placeRole, segmentRoles, bandRoles, wideSegment, wide}
-use Rattle.frame.specs.OneRole.{first, segment-length}
+use Rattle.frame.specs.declared.CarrierRole.the-variants.{Tmcc}
+use Rattle.frame.specs.Rules.{placeHas}
+use Rattle.frame.specs.OneRole.{place-has}
+use Rattle.frame.specs.BySegment.{by-segment}
 use Rattle.tmcc.specs.Tmcc.{passes, placeTmcc, tmccCarriers, softValue}
 
 -- a filter that no segment passes gives -0.0
@@ -109,20 +110,10 @@ rows-laid M2 Differential = refl
 rows-laid M3 Coherent = refl
 rows-laid M3 Differential = refl
 
--- where at most one of the five tests holds, the role is TMCC where the third does
-tmcc-first : (sp cp t a b : Bool) → one sp + (one cp + (one t + (one a + one b))) ≤ 1 → isTmcc (roleByte (first sp cp t a b)) ≡ t
-tmcc-first sp cp t a b h =
-    same-true _ _
-    (rw (le-leb _ _ h) at
-    (always5-at (λ sp cp t a b.
-    cond (leb (one sp + (one cp + (one t + (one a + one b)))) 1) (same (isTmcc (roleByte (first sp cp t a b))) t) true) refl sp cp t a b))
-
 module _ (mode : Mode) (s : OfdmSegment) (in-table : s .row < 13) where
   tmcc-place : (p : ℕ) → p < carriersPerSegment mode → isTmcc (roleByte (placeRole mode s 0 p)) ≡ memb p (tmccOf mode (s .kind) (s .row))
-  unfolding placeRole claims
-  tmcc-place p h =
-      tmcc-first (isSp (s .kind) 0 p) (isCp (s .kind) p) (memb p (tmccOf mode (s .kind) (s .row))) (memb p (ac1Of mode (s .kind) (s .row)))
-      (memb p (ac2Of mode (s .kind) (s .row))) (apart mode (s .kind) (s .row) 0 in-table (lit< tt) p h)
+  unfolding placeHas
+  tmcc-place p h = sym (place-has mode s 0 p Tmcc in-table (lit< tt) h)
 
   -- the TMCC carriers of a segment whose first carrier is k
   segment-tmcc : (k : ℕ) → chosen isTmcc k (segmentRoles mode 0 s) ≡ map (λ p. k + p) (tmccOf mode (s .kind) (s .row))
@@ -136,19 +127,6 @@ module _ (mode : Mode) (s : OfdmSegment) (in-table : s .row < 13) where
       (λ i l. let m : i < c = rw size at l in rw (getD-upTo role c i 0 m, zero-add i) (tmcc-place i m))
 
 -- ---- the band
--- segment by segment, from the lowest place upward
-by-segment : (mode : Mode) (kinds : List ℕ)
-    → chosen isTmcc 0 (bandRoles mode 0 (wide kinds))
-    ≡ joined (λ seg. chosen isTmcc (placeOf seg * carriersPerSegment mode) (segmentRoles mode 0 (wideSegment kinds seg))) order
-unfolding bandRoles
-by-segment mode kinds =
-    let roles = joined (segmentRoles mode 0) (wide kinds) in
-    chosen-append isTmcc 0 roles (roleByte EdgeCp ∷ [])
-    ∙ (append-nil (chosen isTmcc 0 roles)
-    ∙ (ap (λ (n : ℕ). chosen isTmcc n roles) (sym (zero-mul (carriersPerSegment mode)))
-    ∙ chosen-joined isTmcc (λ seg. segmentRoles mode 0 (wideSegment kinds seg)) (carriersPerSegment mode) placeOf order 0
-    (λ i l. segment-length mode 0 (wideSegment kinds (getD order i 0))) (λ i l. place-of-segment i l ∙ omega arith)))
-
 -- with every segment let pass, the carriers are those of role TMCC, ascending
 pub tmcc-by-role : (mode : Mode) (kinds : List ℕ) → tmccCarriers mode kinds 2 ≡ chosen (λ role. eqb role 3) 0 (bandRoles mode 0 (wide kinds))
 unfolding tmccCarriers
@@ -158,7 +136,7 @@ tmcc-by-role mode kinds =
     (λ place h.
     rw (place-of-segment place h)
     (sym (segment-tmcc mode (wideSegment kinds (segmentAt place)) (segment-below place h) (place * carriersPerSegment mode))))
-    ∙ sym (by-segment mode kinds)
+    ∙ sym (by-segment isTmcc refl mode 0 kinds)
 
 -- ---- a filter
 select-joined : (q : ℕ → Bool) (f : ℕ → List ℕ) (xs : List ℕ) → select q (joined f xs) ≡ joined (λ x. select q (f x)) xs
@@ -174,11 +152,11 @@ select-alike q true g (x ∷ xs) h = rw (h 0 (omega arith), select-alike q true 
 select-alike q false g (x ∷ xs) h = rw (h 0 (omega arith), select-alike q false g xs (λ i l. h (suc i) (suc-le-suc l)))
 
 -- a filter keeps of them those that lie in segments of its kind: the carrier k lies at the place k / c
-pub tmcc-filtered : (mode : Mode) (kinds : List ℕ) (filter : ℕ) → filter ≤ 1
+pub tmcc-filtered : (mode : Mode) (kinds : List ℕ) (filter : ℕ)
     → tmccCarriers mode kinds filter
     ≡ select (λ k. passes filter (kindFrom (getD kinds (segmentAt (k / carriersPerSegment mode)) 0))) (tmccCarriers mode kinds 2)
 unfolding tmccCarriers
-tmcc-filtered mode kinds filter h =
+tmcc-filtered mode kinds filter =
     let c = carriersPerSegment mode in
     let kind : ℕ → SegmentKind = λ place. kindFrom (getD kinds (segmentAt place) 0) in
     let test : ℕ → Bool = λ k. passes filter (kind (k / c)) in

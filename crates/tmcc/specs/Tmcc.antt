@@ -4,7 +4,6 @@
 use Prim.Native.Nat.{ℕ, _+_, _*_}
 use mathlib.Core.Bool.{Bool, true, cond}
 use mathlib.Core.List.{List, [], map}
-use mathlib.Core.Path.{_≡_}
 use lib.Dec.{eqb, leb}
 use lib.ListN.{getD, length}
 use lib.Ieee.{Float, binary32}

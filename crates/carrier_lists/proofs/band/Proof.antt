@@ -1,8 +1,6 @@
 -- `carrier_lists::band` meets its contract: the band's roles take the buffer's first k_total entries.
 -- Assumes nothing.
-use Prim.Native.Nat.{ℕ, _≤_}
-use mathlib.Core.Path.{_≡_, sym, _∙_}
-use lib.ListN.{length}
+use mathlib.Core.Path.{sym, _∙_}
 use lib.Seq.{length-take-le}
 use Rattle.params.specs.Laws.{sized}
 use Rattle.carrier_lists.proofs.Buffered.{written-front}

@@ -1,7 +1,7 @@
 -- `carrier_lists::collect_continual` meets its contract: the groups are counted first, and then stored behind one another.
 -- Assumes nothing.
-use mathlib.Core.Path.{_≡_, refl, sym, ap, _∙_}
-use Prim.Native.Nat.{ℕ, _≤_}
+use mathlib.Core.Path.{refl}
+use Prim.Native.Nat.{_≤_}
 use lib.ListN.{length, length-set}
 use Rattle.frame.specs.Roles.{isTmcc, isAc, isCpByte}
 use Rattle.carrier_lists.specs.Written.{continualIn}

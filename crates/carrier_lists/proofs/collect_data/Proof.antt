@@ -1,7 +1,7 @@
 -- `carrier_lists::collect_data` meets its contract: the carriers of the segments so far are stored behind one another.
 -- Assumes nothing.
 use Prim.Native.Nat.{ℕ, _-_}
-use mathlib.Core.Path.{_≡_, sym, ap, _∙_}
+use mathlib.Core.Path.{ap, _∙_}
 use Rattle.lists.specs.Lists.{joined, range}
 use Rattle.carrier_lists.specs.Written.{dataIn}
 use Rattle.carrier_lists.proofs.Stored.{DataTo, data-begin, data-size, data-ends, data-room, data-again, data-done}

@@ -1,8 +1,6 @@
 -- `carrier_lists::continual_carriers` meets its contract: the buffer's front is the band's roles.
 -- Assumes nothing.
-use Prim.Native.Nat.{ℕ, _≤_, _<_}
-use mathlib.Core.Path.{_≡_, sym, _∙_}
-use lib.ListN.{length}
+use mathlib.Core.Path.{sym, _∙_}
 use Rattle.params.specs.Laws.{sized}
 use Rattle.carrier_lists.proofs.Buffered.{buffer-room, front-length, continual-of}
 use borrow.Author.Needs.{needs}

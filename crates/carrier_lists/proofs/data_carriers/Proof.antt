@@ -1,7 +1,6 @@
 -- `carrier_lists::data_carriers` meets its contract: the buffer's front is the band's roles, and its parts are the segments'.
 -- Assumes nothing.
-use Prim.Native.Nat.{ℕ, _≤_, _<_}
-use mathlib.Core.Path.{_≡_, sym, _∙_}
+use mathlib.Core.Path.{sym, _∙_}
 use Rattle.carrier_lists.proofs.Buffered.{buffer-room, front-length, data-room, data-stored}
 use borrow.Author.Needs.{needs}
 use Rattle.carrier_lists.proofs.data_carriers.Statement.{statement}

@@ -1,8 +1,7 @@
 -- `carrier_lists::data_list` meets its contract: each return is the case of the definition that the tests on the way decide, and an accepted layout is listed.
 -- Assumes nothing.
 use Prim.Native.Nat.{ℕ, _*_}
-use mathlib.Core.List.{List}
-use mathlib.Core.Path.{_≡_, sym, ap, _∙_}
+use mathlib.Core.Path.{sym, ap, _∙_}
 use Rattle.params.specs.Params.{dataCarriersPerSegment}
 use Rattle.params.specs.Laws.{sized}
 use Rattle.carrier_lists.specs.CarrierLists.{dataList}

@@ -1,8 +1,8 @@
 -- `frame::mark` meets its contract: what is left of the row marks what is marked so far into the whole.
 -- Assumes nothing.
-use Prim.Native.Nat.{ℕ, _+_, _-_, _≤_}
+use Prim.Native.Nat.{_-_, _≤_}
 use mathlib.Core.Path.{_≡_, refl, sym, ap, _∙_}
-use lib.ListN.{length, getD, take, drop, length-set, drop-of-length-le}
+use lib.ListN.{length, take, drop, length-set, drop-of-length-le}
 use lib.Seq.{length-take-le}
 use Rattle.frame.specs.Written.{markedAt}
 use Rattle.frame.proofs.Marked.{mark-one}

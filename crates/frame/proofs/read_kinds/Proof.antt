@@ -1,6 +1,6 @@
 -- `frame::read_kinds` meets its contract: what is read is the kinds' front, and the rest decides the test.
 -- Assumes nothing.
-use Prim.Native.Nat.{ℕ, _-_}
+use Prim.Native.Nat.{_-_}
 use mathlib.Core.Path.{refl}
 use Rattle.frame.proofs.Copied.{Reading, miscounted, one-more, no-kind, all-read}
 use borrow.Author.Needs.{needs}

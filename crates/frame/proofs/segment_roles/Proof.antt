@@ -1,6 +1,6 @@
 -- `frame::segment_roles` meets its contract: the pilots first, then each row of the tables marked over them.
 -- Assumes nothing.
-use mathlib.Core.Path.{_≡_, refl, sym, ap, _∙_}
+use mathlib.Core.Path.{ap, _∙_}
 use lib.ListN.{length}
 use Rattle.lists.specs.Select.{length-upTo}
 use Rattle.tables.specs.Rule.{tmcc-below, ac1-below, ac2-below, tmcc-short, ac1-short, ac2-short}

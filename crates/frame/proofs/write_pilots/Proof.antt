@@ -1,6 +1,6 @@
 -- `frame::write_pilots` meets its contract: the output is filled from the front.
 -- Assumes nothing.
-use Prim.Native.Nat.{ℕ, _+_, _-_, _≤_}
+use Prim.Native.Nat.{_+_, _-_, _≤_}
 use mathlib.Core.List.{_++_}
 use mathlib.Core.Path.{_≡_, refl}
 use lib.ListN.{length, drop, length-set}

@@ -1,6 +1,6 @@
 -- `ofdm::band_carrier` meets its contract: the carrier lies below thirteen segments.
 -- Assumes nothing.
-use Prim.Native.Nat.{ℕ, _<_}
+use Prim.Native.Nat.{_<_}
 use lib.Arith.{digits-lt}
 use Rattle.params.specs.Laws.{sized}
 use borrow.Author.Needs.{needs}

@@ -1,6 +1,5 @@
 -- `ofdm::bin_lookup` meets its contract: each return is the case of the definition that the tests on the way decide.
 -- Assumes nothing.
-use mathlib.Core.Path.{_∙_, sym, ap}
 use borrow.Author.Tests.{lt-ltb, le-ltb}
 use Rattle.ofdm.specs.Band.{binLookup}
 use borrow.Author.Needs.{needs}

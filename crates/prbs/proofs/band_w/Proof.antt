@@ -1,7 +1,7 @@
 -- `prbs::band_w` meets its contract: the band is written place by place, and then its edge.
 -- Assumes nothing.
 use Prim.Native.Nat.{ℕ, _-_}
-use mathlib.Core.Path.{_≡_, refl, sym, ap, _∙_}
+use mathlib.Core.Path.{_≡_, refl, ap, _∙_}
 use lib.ListN.{length, length-set}
 use Rattle.lists.specs.Select.{length-upTo}
 use Rattle.params.specs.declared.Mode.{Mode}

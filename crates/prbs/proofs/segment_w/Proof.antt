@@ -1,8 +1,6 @@
 -- `prbs::segment_w` meets its contract: the register is loaded with the segment's row and run over its c carriers.
 -- Assumes nothing.
-use mathlib.Core.Path.{_∙_, ap}
-use Rattle.lists.specs.Lists.{upTo}
-use Rattle.prbs.specs.Signs.{segmentSigns, loaded, signAfter}
+use Rattle.prbs.specs.Signs.{segmentSigns}
 use borrow.Author.Needs.{needs}
 use Rattle.prbs.proofs.segment_w.Statement.{statement}
 use Rattle.prbs.proofs.segment_w.Tie as tie

@@ -1,7 +1,6 @@
 -- `prbs::sign_map` meets its contract: each return is the case of the definition that the tests on the way decide.
 -- Assumes nothing.
-use mathlib.Core.Path.{refl, sym, ap, _∙_}
-use borrow.Author.Tests.{eq-eqb, ne-eqb}
+use mathlib.Core.Path.{sym, _∙_}
 use Rattle.prbs.proofs.Returns.{sign-bad-mode, sign-bad-length, sign-written}
 use borrow.Author.Needs.{needs}
 use Rattle.prbs.proofs.sign_map.Statement.{statement}

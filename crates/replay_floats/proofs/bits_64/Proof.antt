@@ -2,7 +2,6 @@
 -- Assumes nothing.
 use mathlib.Core.Path.{sym, _∙_}
 use Rattle.ieee.specs.Order.{no-nan, ne-self}
-use borrow.Author.Needs.{needs}
 use Rattle.replay_floats.proofs.bits_64.Statement.{statement}
 use Rattle.replay_floats.proofs.bits_64.Tie as tie
 
