@@ -19,6 +19,7 @@ use params::ModeNumber;
 
 // All modes, and all guards.
 pub const MODES: [u8; 3] = [1, 2, 3];
+
 pub const GUARDS: [u8; 4] = [4, 8, 16, 32];
 
 pub enum SamplesNeeded {
