@@ -17,9 +17,10 @@ use params::GuardInterval;
 use params::Mode;
 use params::ModeNumber;
 
-// All modes, and all guards.
+// All modes.
 pub const MODES: [u8; 3] = [1, 2, 3];
 
+// All guards.
 pub const GUARDS: [u8; 4] = [4, 8, 16, 32];
 
 pub enum SamplesNeeded {
