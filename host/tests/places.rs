@@ -209,12 +209,25 @@ fn every_function_has_its_places() {
             read_all("oracle/src", ".rs"),
             "c::sillurwy_NAME(",
         ),
+        (
+            "a row in the benchmark",
+            ["bin/bench", "bench_acquire", "bench_grid"]
+                .map(|file| read(&format!("oracle/src/{file}.rs")))
+                .concat(),
+            "ffi::NAME( or (LINKED.NAME)(",
+        ),
+        (
+            "a case in host/tests/stored.rs",
+            read("host/tests/stored.rs"),
+            "::NAME( or ::NAME_lent(",
+        ),
         ("a word in README.md", read("README.md"), "`sillurwy_NAME`"),
     ];
     let mut missing = Vec::new();
     for name in defined().keys() {
-        for (place, text, pattern) in &places {
-            if !text.contains(&pattern.replace("NAME", name)) {
+        for (place, text, patterns) in &places {
+            let patterns = patterns.replace("NAME", name);
+            if !patterns.split(" or ").any(|one| text.contains(one)) {
                 missing.push(format!("sillurwy_{name} has not {place}"));
             }
         }
