@@ -45,8 +45,8 @@ enum mistake {
     MISTAKES
 };
 
-/* Makes one of those with the buffers, so that the checks can be seen to find it; the last two in the
- * buffer of this name. A call that gives no occasion for it is left alone. */
+/* Makes one with the buffers, so that the checks can be seen to find it; the last two are made in
+ * the buffer of this name. Nothing is done where the last call gives no occasion for it. */
 void lent_mistake(enum mistake mistake, const char *name, bool refused);
 
 #endif
