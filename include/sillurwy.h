@@ -200,8 +200,8 @@ uint8_t sillurwy_tmcc_soft(uint8_t mode, const uint8_t *kinds, size_t kinds_len,
  *   spectra       one behind another, 0 to SILLURWY_MOST_SPECTRA, each of k_total pairs by carrier
  *   found         1 if there are scattered pilots, else 0; then phase and share keep their contents
  *   phase, share  the phase, 0 to 3, and the share of the votes that it has
- *   counts        the votes for each phase: SILLURWY_PHASES numbers
- *   lead          the largest count less the largest of the other three
+ *   counts        the votes for each phase: SILLURWY_PHASES numbers; all 0 where found is 0
+ *   lead          the largest count less the largest of the other three; 0 where found is 0
  * Refused: 1 bad mode; 2 bad kinds; 5 not whole spectra, or too many. */
 uint8_t sillurwy_detect_sp_phase(uint8_t mode, const uint8_t *kinds, size_t kinds_len,
                                  const float *spectra, size_t spectra_len, uint8_t *found,

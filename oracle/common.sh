@@ -10,9 +10,9 @@ say() {
     echo "oracle: $*" >&2
 }
 
-# True if the file is missing, or older than any file under crates/.
+# True if the file is missing, or older than crates.txt or any file under crates/.
 stale() {
-    [ ! -e "$1" ] || [ -n "$(find "$root/crates" -type f -newer "$1" -print -quit)" ]
+    [ ! -e "$1" ] || [ -n "$(find "$root/crates" "$root/crates.txt" -type f -newer "$1" -print -quit)" ]
 }
 
 # The static library of the proved operations. SILLURWY_LIB_DIR names another one.

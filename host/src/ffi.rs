@@ -1,4 +1,4 @@
-//! The C functions, as include/sillurwy.h declares them.
+//! The C functions, as include/sillurwy.h declares them. The oracle calls them too, as they are.
 //!
 //! They are called with pointers to whole slices and their lengths, and to whole numbers, all of
 //! which live through the call; what is written is borrowed by nobody else. The functions keep no

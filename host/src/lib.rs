@@ -42,7 +42,8 @@
 pub mod carrier_lists;
 pub mod chanest;
 pub mod complex;
-mod ffi;
+#[doc(hidden)]
+pub mod ffi;
 pub mod frame;
 pub mod guess;
 pub mod ieee;

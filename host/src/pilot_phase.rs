@@ -18,9 +18,9 @@ pub enum PilotPhase {
 pub struct PilotAnswer {
     /// The phase.
     pub phase: PilotPhase,
-    /// The votes for each phase.
+    /// The votes for each phase; all 0 without scattered pilots.
     pub counts: [u32; 4],
-    /// The largest count less the largest of the other three.
+    /// The largest count less the largest of the other three; 0 without scattered pilots.
     pub lead: u32,
 }
 
@@ -40,6 +40,7 @@ pub struct PilotAnswer {
 /// assert_eq!(answer.phase, PilotPhase::Phase(Phase::P3, 0.0));
 /// let answer = detect_sp_phase(Mode::M1, &[SegmentKind::Differential; 13], &[])?;
 /// assert_eq!(answer.phase, PilotPhase::NoScatteredPilots);
+/// assert_eq!((answer.counts, answer.lead), ([0; 4], 0));
 /// # Ok::<(), sillurwy::Refusal>(())
 /// ```
 pub fn detect_sp_phase(mode: Mode, kinds: &Kinds, spectra: &[f32]) -> Result<PilotAnswer, Refusal> {

@@ -17,8 +17,8 @@ use crate::refusal::{accepted, Refusal};
 /// let mut spectra: Vec<f32> = [1.0, 0.0].repeat(2 * 1405);
 /// // Thirteen TMCC carriers that stay as they were, then thirteen that are negated.
 /// assert_eq!(tmcc_soft(Mode::M1, &kinds, &spectra, None)?, 13.0);
-/// spectra[2 * 1405..].fill(-1.0);
-/// assert!(tmcc_soft(Mode::M1, &kinds, &spectra, None)? < 0.0);
+/// spectra[2 * 1405..].iter_mut().for_each(|part| *part = -*part);
+/// assert_eq!(tmcc_soft(Mode::M1, &kinds, &spectra, None)?, -13.0);
 /// # Ok::<(), sillurwy::Refusal>(())
 /// ```
 pub fn tmcc_soft(

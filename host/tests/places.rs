@@ -1,6 +1,7 @@
 //! Every function of the C library has its places (docs/ADDING.md), and the header and this crate
-//! declare it as `crates/host` defines it: the same names and types, in the same order.
+//! declare it as `crates/host` defines it: the same names, types and sizes, in the same order.
 
+use sillurwy::params::SEGMENTS;
 use std::collections::BTreeMap;
 use std::fs;
 use std::path::Path;
@@ -25,10 +26,25 @@ fn read_all(name: &str, ending: &str) -> String {
         .collect()
 }
 
-/// A pointer to the elements of `element`, which may be an array's: `u8; 13`.
-fn pointer(kind: &str, element: &str) -> String {
-    let of = element.trim_start_matches('[').split([';', ']']).next();
-    format!("*{kind} {}", of.expect("split gives something").trim())
+/// A pointer to what Rattle or Rust calls `of`: to an array with its size, else to an element.
+fn pointer(kind: &str, of: &str) -> String {
+    let inner = of.trim_start_matches('[').trim_end_matches(']');
+    match inner.split_once("; ") {
+        Some((element, size)) => array(kind, element, size),
+        None => format!("*{kind} {inner}"),
+    }
+}
+
+/// A pointer to an array, whose size may have a name.
+fn array(kind: &str, element: &str, size: &str) -> String {
+    let size = match size {
+        "SEGMENTS" => SEGMENTS,
+        // `tests/c/header.c` holds these to their numbers.
+        "SILLURWY_SEGMENTS" => 13,
+        "SILLURWY_PHASES" => 4,
+        number => number.parse().expect("a size is a number"),
+    };
+    format!("*{kind} [{element}; {size}]")
 }
 
 /// An argument in Rattle, as C has it: a slice is a pointer and a length.
@@ -100,12 +116,13 @@ fn from_c(argument: &str) -> (String, String) {
     let [of, name] = words else {
         panic!("{argument} is no argument of the header")
     };
-    let plain = name.trim_start_matches('*').split('[').next();
-    let plain = plain.expect("split gives something").to_string();
-    match plain == *name {
-        true => (plain, c_type(of)),
-        false => (plain, pointer(kind, &c_type(of))),
-    }
+    let of = c_type(of);
+    let (plain, of) = match (name.strip_prefix('*'), name.split_once('[')) {
+        (Some(plain), _) => (plain, pointer(kind, &of)),
+        (_, Some((plain, size))) => (plain, array(kind, &of, size.trim_end_matches(']'))),
+        (None, None) => (*name, of),
+    };
+    (plain.to_string(), of)
 }
 
 /// The header without its comments and macros.
@@ -192,17 +209,49 @@ fn every_function_has_its_places() {
             read_all("oracle/src", ".rs"),
             "c::sillurwy_NAME(",
         ),
+        (
+            "a row in the benchmark",
+            ["bin/bench", "bench_acquire", "bench_grid"]
+                .map(|file| read(&format!("oracle/src/{file}.rs")))
+                .concat(),
+            "ffi::NAME( or (LINKED.NAME)(",
+        ),
+        (
+            "a case in host/tests/stored.rs",
+            read("host/tests/stored.rs"),
+            "::NAME( or ::NAME_lent(",
+        ),
         ("a word in README.md", read("README.md"), "`sillurwy_NAME`"),
     ];
     let mut missing = Vec::new();
     for name in defined().keys() {
-        for (place, text, pattern) in &places {
-            if !text.contains(&pattern.replace("NAME", name)) {
+        for (place, text, patterns) in &places {
+            let patterns = patterns.replace("NAME", name);
+            if !patterns.split(" or ").any(|one| text.contains(one)) {
                 missing.push(format!("sillurwy_{name} has not {place}"));
             }
         }
     }
     assert!(missing.is_empty(), "{missing:#?}");
+}
+
+#[test]
+fn every_constant_of_the_header_has_its_line() {
+    let (header, lines) = (read("include/sillurwy.h"), read("tests/c/header.c"));
+    let defined = header.lines().filter_map(|line| {
+        let line = line.trim_start().trim_start_matches("#define ");
+        line.starts_with("SILLURWY_")
+            .then(|| line.split([' ', '(']).next())?
+    });
+    // Neither the guard of the header nor what the macros are made of.
+    let names = defined.filter(|name| !["SILLURWY_H", "SILLURWY_BY_MODE"].contains(name));
+    let held = |name: &&str| {
+        [" ==", "("]
+            .iter()
+            .any(|end| lines.contains(&format!("{name}{end}")))
+    };
+    let (held, missing): (Vec<&str>, Vec<&str>) = names.partition(held);
+    assert!(held.len() >= 30 && missing.is_empty(), "{missing:?}");
 }
 
 #[test]
@@ -218,6 +267,8 @@ fn differences_are_seen() {
         "uint8_t sillurwy_f(const float *a, uint8_t b[13], size_t *c);",
         "uint8_t sillurwy_f(const float *a, size_t a_len, size_t *c, uint8_t b[13]);",
         "uint8_t sillurwy_f(const float *a, size_t a_len, uint8_t b[13], size_t c);",
+        "uint8_t sillurwy_f(const float *a, size_t a_len, uint8_t b[12], size_t *c);",
+        "uint8_t sillurwy_f(const float *a, size_t a_len, uint8_t *b, size_t *c);",
         "size_t sillurwy_f(const float *a, size_t a_len, uint8_t b[13], size_t *c);",
         "",
     ] {

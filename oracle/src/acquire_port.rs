@@ -99,78 +99,7 @@ pub const RUST: Port = Port {
 /// The C functions, each behind a safe function over slices.
 mod linked {
     use super::{GuessOut, PhaseOut, SEGMENTS};
-
-    mod c {
-        use super::SEGMENTS;
-
-        unsafe extern "C" {
-            pub fn sillurwy_samples_needed(
-                modes: *const u8,
-                modes_len: usize,
-                guards: *const u8,
-                guards_len: usize,
-                symbols: usize,
-                samples: *mut usize,
-            ) -> u8;
-            pub fn sillurwy_detect_mode(
-                samples: *const f32,
-                len: usize,
-                modes: *const u8,
-                modes_len: usize,
-                guards: *const u8,
-                guards_len: usize,
-                scratch: *mut f64,
-                scratch_len: usize,
-                found: *mut u8,
-                mode: *mut u8,
-                guard: *mut u8,
-                offset: *mut usize,
-                metric: *mut f64,
-                re: *mut f64,
-                im: *mut f64,
-            ) -> u8;
-            pub fn sillurwy_integer_cfo(
-                mode: u8,
-                spectra: *const f32,
-                len: usize,
-                bound: usize,
-                ratios: *mut f32,
-                ratios_len: usize,
-                shift: *mut i64,
-                score: *mut f32,
-            ) -> u8;
-            pub fn sillurwy_detect_kinds(
-                mode: u8,
-                spectra: *const f32,
-                len: usize,
-                ratios: *mut f32,
-                ratios_len: usize,
-                kinds: *mut [u8; SEGMENTS],
-                scores: *mut [f32; SEGMENTS],
-            ) -> u8;
-            pub fn sillurwy_tmcc_soft(
-                mode: u8,
-                kinds: *const u8,
-                kinds_len: usize,
-                spectra: *const f32,
-                len: usize,
-                filter: u8,
-                value: *mut f32,
-            ) -> u8;
-            pub fn sillurwy_detect_sp_phase(
-                mode: u8,
-                kinds: *const u8,
-                kinds_len: usize,
-                spectra: *const f32,
-                len: usize,
-                found: *mut u8,
-                phase: *mut u8,
-                share: *mut f32,
-                counts: *mut [u32; 4],
-                lead: *mut u32,
-            ) -> u8;
-        }
-    }
+    use sillurwy::ffi as c;
 
     // Each call below hands over pointers to whole slices with their lengths, and to whole numbers,
     // all of which live through the call; the functions keep no pointer.

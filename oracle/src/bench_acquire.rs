@@ -9,7 +9,8 @@
 
 use crate::C32;
 use crate::acquire_answers::{
-    self as answers, Guess, KindsFound, Phase, Shift, pairs, scratch_needed, spectra_of,
+    self as answers, Guess, KindsFound, MOST_SYMBOLS, Phase, Shift, pairs, scratch_needed,
+    spectra_of,
 };
 use crate::acquire_port::{GuessOut, LINKED, PhaseOut};
 use crate::captures::{Band, Places};
@@ -44,6 +45,8 @@ const NOISE: f32 = 0.1;
 const SLOPE: f64 = 0.002;
 /// Coherent and differential segments, by a bit for each.
 const MIXED: u16 = 0b0_0110_1001_0101;
+/// The filter of the soft TMCC value that takes every segment.
+const ALL: u8 = 2;
 /// Every segment coherent.
 pub(crate) const COHERENT: u16 = 0;
 
@@ -92,6 +95,33 @@ pub(crate) fn captures(choice: u16, places: Places, count: usize) -> Vec<Capture
     let number = if count < MANY { CAPTURES } else { 1 };
     let capture = |_| Capture::new(&mut rng, choice, places, count);
     (0..number).map(capture).collect()
+}
+
+/// The samples that the guess needs over all modes and guards, for each number of symbols in turn.
+fn needed_row(effort: &Effort) -> Row {
+    let modes = MODES.map(Mode::number);
+    for symbols in 0..=MOST_SYMBOLS {
+        let right = answers::samples_needed(&modes, &GUARDS, symbols);
+        assert_eq!(right, Ok(port_needed(&modes, symbols)));
+    }
+    let symbols = |i| i % (MOST_SYMBOLS + 1);
+    row(
+        "samples needed, over all modes and guards".to_string(),
+        "`samples_needed`",
+        effort,
+        |i| port_needed(&modes, symbols(i)),
+        |i| {
+            let (modes, guards) = black_box((&acquire::MODES, &acquire::GUARDS));
+            acquire::samples_needed(modes, guards, symbols(i))
+        },
+    )
+}
+
+fn port_needed(modes: &[u8], symbols: usize) -> usize {
+    let mut samples = 0;
+    let code = (LINKED.samples_needed)(modes, &GUARDS, symbols, &mut samples);
+    assert_eq!(code, 0, "the samples needed are accepted");
+    samples
 }
 
 /// The guess over all modes and guards.
@@ -218,6 +248,32 @@ fn port_kinds(floats: &[f32], ratios: &mut [f32]) -> ([u8; SEGMENTS], [f32; SEGM
     (kinds, scores)
 }
 
+/// The soft TMCC value of all segments. The Rust's layout is made before the time is taken.
+fn soft_row(effort: &Effort) -> Row {
+    let captures = captures(MIXED, Places::Carriers, 2);
+    let layout = FrameLayout::new(MODE, kinds_of_choice(MIXED));
+    let kinds = kind_bytes(MIXED);
+    for Capture { floats, .. } in &captures {
+        let right = answers::tmcc_soft(MODE.number(), &kinds, floats, ALL);
+        assert_eq!(right, Ok(port_soft(&kinds, floats)));
+    }
+    let at = |i: usize| &captures[i % captures.len()];
+    row(
+        of_spectra("soft TMCC value", 2),
+        "`tmcc_soft`, of a layout already made",
+        effort,
+        |i| port_soft(&kinds, &at(i).floats),
+        |i| acquire::tmcc_soft(&layout, &at(i).spectra[1], &at(i).spectra[0], None),
+    )
+}
+
+fn port_soft(kinds: &[u8], floats: &[f32]) -> f32 {
+    let mut value = 0.0;
+    let code = (LINKED.tmcc_soft)(black_box(MODE.number()), kinds, floats, ALL, &mut value);
+    assert_eq!(code, 0, "the soft TMCC value is accepted");
+    value
+}
+
 /// The pilot phase of `count` spectra. The Rust's layout is made before the time is taken.
 fn phase_row(count: usize, effort: &Effort) -> Row {
     let captures = captures(COHERENT, Places::Carriers, count);
@@ -276,12 +332,13 @@ pub fn rows(effort: &Effort) -> Vec<Row> {
         calls: 1,
         ..*effort
     };
-    let mut rows = vec![guess_row(&in_turn)];
+    let mut rows = vec![needed_row(&in_turn), guess_row(&in_turn)];
     for row in [shift_row, kinds_row, phase_row] {
         for count in SPECTRA {
             let effort = if count < MANY { &in_turn } else { &few };
             rows.push(row(count, effort));
         }
     }
+    rows.push(soft_row(&in_turn));
     rows
 }

@@ -3,18 +3,12 @@
 
 use crate::answers::Answer;
 use crate::ffi;
-use crate::lent::Lent;
-use std::hint::black_box;
+use crate::lent::{Lent, Shown};
 
 /// A difference in the code.
 pub fn code<T>(port: u8, answer: &Result<T, u8>) -> Option<String> {
     let oracle = answer.as_ref().err().copied().unwrap_or(0);
     (port != oracle).then(|| format!("code: oracle {oracle}, port {port}"))
-}
-
-/// A difference in the kinds, which are lent to be read only.
-fn kinds_kept(lent: &[u8], kinds: &[u8]) -> Option<String> {
-    (black_box(lent) != kinds).then(|| format!("kinds were written: {lent:?}"))
 }
 
 /// Bin lookup.
@@ -41,11 +35,11 @@ pub fn role_map(
     salt: u64,
 ) -> Option<String> {
     let mut out = Lent::new(len, salt);
-    let lent_kinds = kinds.to_vec();
-    let port = ffi::role_map(mode, phase, &lent_kinds, out.slice());
+    let kinds = Shown::new(kinds);
+    let port = ffi::role_map(mode, phase, kinds.slice(), out.slice());
     code(port, answer)
         .or_else(|| out.difference("out", answer))
-        .or_else(|| kinds_kept(&lent_kinds, kinds))
+        .or_else(|| kinds.written("kinds"))
 }
 
 /// Data list.
@@ -58,11 +52,11 @@ pub fn data_list(
     salt: u64,
 ) -> Option<String> {
     let mut out = Lent::new(len, salt);
-    let lent_kinds = kinds.to_vec();
-    let port = ffi::data_list(mode, phase, &lent_kinds, out.slice());
+    let kinds = Shown::new(kinds);
+    let port = ffi::data_list(mode, phase, kinds.slice(), out.slice());
     code(port, answer)
         .or_else(|| out.difference("out", answer))
-        .or_else(|| kinds_kept(&lent_kinds, kinds))
+        .or_else(|| kinds.written("kinds"))
 }
 
 /// Continual list.
@@ -75,11 +69,11 @@ pub fn continual_list(
 ) -> Option<String> {
     let mut out = Lent::new(len, salt);
     let mut count = Lent::new(1, salt);
-    let lent_kinds = kinds.to_vec();
-    let port = ffi::continual_list(mode, &lent_kinds, out.slice(), &mut count.slice()[0]);
+    let kinds = Shown::new(kinds);
+    let port = ffi::continual_list(mode, kinds.slice(), out.slice(), &mut count.slice()[0]);
     let counted = answer.as_ref().map(|list| vec![list.len()]);
     code(port, answer)
         .or_else(|| count.difference("count", &counted.map_err(|&refusal| refusal)))
         .or_else(|| out.difference("out", answer))
-        .or_else(|| kinds_kept(&lent_kinds, kinds))
+        .or_else(|| kinds.written("kinds"))
 }

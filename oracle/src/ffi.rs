@@ -3,40 +3,7 @@
 //! Every function gives 0 or the number of its refusal; a refusal leaves what was lent untouched. The
 //! float functions at the end refuse nothing and give their value.
 
-mod c {
-    unsafe extern "C" {
-        pub fn sillurwy_carrier_bin(mode: u8, k: usize, bin: *mut usize) -> u8;
-        pub fn sillurwy_role_map(
-            mode: u8,
-            phase: u8,
-            kinds: *const u8,
-            kinds_len: usize,
-            out: *mut u8,
-            out_len: usize,
-        ) -> u8;
-        pub fn sillurwy_sign_map(mode: u8, out: *mut u8, out_len: usize) -> u8;
-        pub fn sillurwy_data_list(
-            mode: u8,
-            phase: u8,
-            kinds: *const u8,
-            kinds_len: usize,
-            out: *mut u32,
-            out_len: usize,
-        ) -> u8;
-        pub fn sillurwy_continual_list(
-            mode: u8,
-            kinds: *const u8,
-            kinds_len: usize,
-            out: *mut u32,
-            out_len: usize,
-            count: *mut usize,
-        ) -> u8;
-        pub fn sillurwy_root(x: f64) -> f64;
-        pub fn sillurwy_narrow(x: f64) -> f32;
-        pub fn sillurwy_norm32(re: f32, im: f32) -> f32;
-        pub fn sillurwy_norm64(re: f64, im: f64) -> f64;
-    }
-}
+use sillurwy::ffi as c;
 
 // Each call below hands over pointers to whole slices with their lengths, and to whole numbers, all
 // of which live through the call; the functions keep no pointer.

@@ -2,26 +2,10 @@
 
 use crate::acquire_port::write_answer;
 use crate::grid_answers as answers;
+use sillurwy::ffi as c;
 
 /// Mode, phase, kinds, spectra, index, time window; the grid.
 pub type EstimateGrid = fn(u8, u8, &[u8], &[f32], usize, usize, &mut [f32]) -> u8;
-
-mod c {
-    unsafe extern "C" {
-        pub fn sillurwy_estimate_grid(
-            mode: u8,
-            phase: u8,
-            kinds: *const u8,
-            kinds_len: usize,
-            spectra: *const f32,
-            len: usize,
-            index: usize,
-            w: usize,
-            grid: *mut f32,
-            grid_len: usize,
-        ) -> u8;
-    }
-}
 
 /// The C function, behind a safe function over slices.
 pub fn linked(

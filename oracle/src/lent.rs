@@ -277,6 +277,10 @@ mod tests {
         shown.all[MARGIN + 1] = f32::NAN;
         let found = shown.written("in").unwrap();
         assert!(found.starts_with("in[1], lent to be read"), "{found}");
+        let mut shown = Shown::new(&values);
+        shown.all[MARGIN + 2] = 1.0;
+        let found = shown.written("in").unwrap();
+        assert!(found.starts_with("in[2], lent to be read"), "{found}");
     }
 
     #[test]

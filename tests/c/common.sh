@@ -5,6 +5,9 @@ here=$(cd "$(dirname "${BASH_SOURCE[0]}")" && pwd)
 archive=${SILLURWY_LIB_DIR:-$root/target/staticlib}/libhost.a
 built=$root/target/c
 mkdir -p "$built"
+# The functions that the header declares, without their prefix.
+functions=$(grep -o 'sillurwy_[a-z0-9_]*(' "$root/include/sillurwy.h" | sed 's/sillurwy_//; s/(//')
+: "${functions:?the header declares no function}"
 
 say() {
     echo "c: $*" >&2

@@ -2,7 +2,7 @@
  * refusal that the header says, must touch nothing but what was lent to it, must leave what was lent
  * to be read as it was, and after a refusal everything; an answer must lie in its range.
  *
- *   fuzz [--seed N] [--cases N] [--only NAME] [--from N] [--mistake N]
+ *   fuzz [--seed N] [--cases N] [--only NAME] [--from N] [--mistake N [--in BUFFER]]
  *
  * Each case has bytes of its own, made from the seed, the target and the number of the case. With
  * -DLIBFUZZER the bytes come from libFuzzer: the first one picks the target, unless the variable
@@ -23,6 +23,7 @@
 static const char *running = "none";
 static unsigned long refusals;
 static enum mistake mistake;
+static const char *mistaken = ""; /* the buffer of a mistake in an answer */
 
 #ifdef LIBFUZZER
 
@@ -278,7 +279,7 @@ static bool accepted(uint8_t code, uint8_t owed)
     if (mistake == WRONG_CODE) {
         code ^= 1;
     } else if (mistake != NO_MISTAKE) {
-        lent_mistake(mistake, code != 0);
+        lent_mistake(mistake, mistaken, code != 0);
     }
     if (code != owed) {
         problem("the refusal is not the one that is owed:", "code", code);
@@ -288,10 +289,20 @@ static bool accepted(uint8_t code, uint8_t owed)
     return code == 0;
 }
 
+/* The range of an accepted answer. The script takes the buffer's name from each call, a line by
+ * itself, and makes a mistake in that buffer, here as below. */
 static void must(bool holds, const char *name)
 {
     if (!holds) {
-        problem("an answer out of its range, or a buffer not left as it should be:", name, 0);
+        problem("an answer is out of its range:", name, 0);
+    }
+}
+
+/* A part of a buffer that an accepted call leaves as it was. */
+static void must_keep(const void *from, size_t bytes, const char *name)
+{
+    if (!lent_kept(from, bytes)) {
+        problem("what is to be left was written:", name, 0);
     }
 }
 
@@ -391,7 +402,7 @@ static void continual_list(struct bytes *in)
     if (accepted(code, bad_mode(mode) ? 1 : bad_kinds(kinds) ? 2 : len < right ? 7 : 0)) {
         must(*count == right, "count");
         must(all_below_u32(out, right, SILLURWY_TOTAL_CARRIERS(mode)), "out");
-        must(lent_kept(out + right, 4 * (len - right)), "out, beyond the count");
+        must_keep(out + right, 4 * (len - right), "out");
     }
 }
 
@@ -473,8 +484,12 @@ static void detect_mode(struct bytes *in)
         must(memchr(guards.at, *guard, guards.len) != NULL, "guard");
         must(*offset < len / 2, "offset");
     } else {
-        must(lent_kept(mode, 1) && lent_kept(guard, 1) && lent_kept(offset, 8), "the guess");
-        must(lent_kept(metric, 8) && lent_kept(re, 8) && lent_kept(im, 8), "the guess");
+        must_keep(mode, sizeof *mode, "mode");
+        must_keep(guard, sizeof *guard, "guard");
+        must_keep(offset, sizeof *offset, "offset");
+        must_keep(metric, sizeof *metric, "metric");
+        must_keep(re, sizeof *re, "re");
+        must_keep(im, sizeof *im, "im");
     }
 }
 
@@ -572,9 +587,11 @@ static void detect_sp_phase(struct bytes *in)
     must(votes == (coherent ? len / (2 * k_total) : 0), "counts");
     must(*lead <= votes, "lead");
     if (coherent) {
-        must(*phase < 4 && *share >= 0 && *share <= 1, "phase");
+        must(*phase < 4, "phase");
+        must(*share >= 0 && *share <= 1, "share");
     } else {
-        must(lent_kept(phase, 1) && lent_kept(share, 4), "phase");
+        must_keep(phase, sizeof *phase, "phase");
+        must_keep(share, sizeof *share, "share");
     }
 }
 
@@ -604,39 +621,43 @@ static void estimate_grid(struct bytes *in)
                    : grid_len != SILLURWY_GRID_LENGTH(mode)   ? 7
                                                               : 0;
     if (accepted(code, owed) && memchr(kinds.at, SILLURWY_COHERENT, kinds.len) == NULL) {
-        must(lent_kept(grid, 4 * grid_len), "grid");
+        must_keep(grid, 4 * grid_len, "grid");
     }
 }
 
 /* ---- Floats: they are held to the compiler's own root and conversion. ---- */
 
-static bool same_f64(double a, double b)
+static void must_be_f64(double given, double owed)
 {
-    return (isnan(a) && isnan(b)) || memcmp(&a, &b, sizeof a) == 0;
+    if (mistake == WRONG_CODE) {
+        given += 1;
+    }
+    if (!(isnan(given) && isnan(owed)) && memcmp(&given, &owed, sizeof given) != 0) {
+        problem("the value is not the one that is owed:", "f64", 0);
+    }
 }
 
-static bool same_f32(float a, float b)
+static void must_be_f32(float given, float owed)
 {
-    return (isnan(a) && isnan(b)) || memcmp(&a, &b, sizeof a) == 0;
-}
-
-/* What a function of floats gives, or a mistake in its place. */
-static double given(double value)
-{
-    return mistake == NO_MISTAKE ? value : value + 1;
+    if (mistake == WRONG_CODE) {
+        given += 1;
+    }
+    if (!(isnan(given) && isnan(owed)) && memcmp(&given, &owed, sizeof given) != 0) {
+        problem("the value is not the one that is owed:", "f32", 0);
+    }
 }
 
 static void root(struct bytes *in)
 {
     double x = a_double(in);
-    must(same_f64(given(sillurwy_root(x)), sqrt(x)), "root");
+    must_be_f64(sillurwy_root(x), sqrt(x));
 }
 
 static void narrow(struct bytes *in)
 {
     /* As often in the range of float as anywhere. */
     double x = a_byte(in) % 2 == 0 ? a_double(in) : (double)a_float(in) * (1 + a_byte(in) / 256.0);
-    must(same_f32((float)given((double)sillurwy_narrow(x)), (float)x), "narrow");
+    must_be_f32(sillurwy_narrow(x), (float)x);
 }
 
 static void norm32(struct bytes *in)
@@ -644,15 +665,14 @@ static void norm32(struct bytes *in)
     float re = a_float(in);
     float im = a_float(in);
     double squares = (double)re * (double)re + (double)im * (double)im;
-    float wanted = (float)sqrt(squares);
-    must(same_f32((float)given((double)sillurwy_norm32(re, im)), wanted), "norm32");
+    must_be_f32(sillurwy_norm32(re, im), (float)sqrt(squares));
 }
 
 static void norm64(struct bytes *in)
 {
     double re = a_double(in);
     double im = a_double(in);
-    must(same_f64(given(sillurwy_norm64(re, im)), sqrt(re * re + im * im)), "norm64");
+    must_be_f64(sillurwy_norm64(re, im), sqrt(re * re + im * im));
 }
 
 /* ---- The targets ---- */
@@ -782,6 +802,8 @@ int main(int words, char **word)
             from = (unsigned long)number_of(word[i], value);
         } else if (strcmp(word[i], "--mistake") == 0) {
             mistake = (enum mistake)(number_of(word[i], value) % MISTAKES);
+        } else if (strcmp(word[i], "--in") == 0 && value != NULL) {
+            mistaken = value;
         } else if (strcmp(word[i], "--only") == 0 && value != NULL) {
             only = target_named(value);
             if (only == TARGETS) {
@@ -790,7 +812,7 @@ int main(int words, char **word)
             }
         } else {
             fprintf(stderr, "usage: fuzz [--seed N] [--cases N] [--only NAME] [--from N]"
-                            " [--mistake 1 to 6]\n");
+                            " [--mistake 1 to 9 [--in BUFFER]]\n");
             return 2;
         }
     }

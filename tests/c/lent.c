@@ -14,6 +14,7 @@ struct slot {
     enum use use;
     uint8_t *at; /* the lent bytes */
     size_t bytes;
+    size_t size; /* bytes of an entry */
     uint8_t *area; /* with the margin */
     size_t area_bytes;
     uint8_t *memory; /* between the two pages that cannot be touched */
@@ -72,6 +73,7 @@ void *lent(const char *name, size_t len, size_t size, enum use use, bool at_end)
     slot->use = use;
     slot->at_end = at_end;
     slot->bytes = len * size;
+    slot->size = size;
     slot->area_bytes = slot->bytes + MARGIN;
     make_room(slot, slot->area_bytes);
     slot->area = at_end ? slot->memory + (slot->room - slot->area_bytes) : slot->memory;
@@ -128,14 +130,27 @@ bool lent_kept(const void *from, size_t bytes)
     return true;
 }
 
-bool lent_mistake(enum mistake mistake, bool refused)
+/* Changes the last entry, if the call wrote it, or if it did not. With the highest bit of each byte
+ * turned, every number leaves its range: it is far from zero, and a share is below it. */
+static void change_last(struct slot *slot, bool written)
+{
+    uint8_t *last = slot->at + slot->bytes - slot->size;
+    if (slot->bytes == 0 || lent_kept(last, slot->size) == written) {
+        return;
+    }
+    for (size_t i = 0; i < slot->size; i++) {
+        last[i] ^= 0x80;
+    }
+}
+
+void lent_mistake(enum mistake mistake, const char *name, bool refused)
 {
     for (size_t i = 0; i < used; i++) {
         struct slot *slot = &slots[i];
         bool writes = slot->use == TO_WRITE;
-        if (mistake == WRITE_BEHIND && writes) {
+        if (mistake == WRITE_BEHIND && writes && !slot->at_end) {
             slot->at[slot->bytes] ^= 1;
-        } else if (mistake == WRITE_BEFORE && writes) {
+        } else if (mistake == WRITE_BEFORE && writes && slot->at_end) {
             slot->at[-1] ^= 1;
         } else if (mistake == WRITE_READ_ONLY && !writes && slot->bytes > 0) {
             slot->at[slot->bytes - 1] ^= 1;
@@ -144,10 +159,14 @@ bool lent_mistake(enum mistake mistake, bool refused)
         } else if (mistake == READ_BEHIND && slot->at_end) {
             volatile uint8_t *behind = slot->at + slot->bytes;
             (void)*behind;
+        } else if (mistake == READ_BEFORE && !slot->at_end) {
+            volatile uint8_t *before = slot->at - 1;
+            (void)*before;
+        } else if (mistake >= WRONG_ANSWER && writes && !refused && strcmp(slot->name, name) == 0) {
+            change_last(slot, mistake == WRONG_ANSWER);
         } else {
             continue;
         }
-        return true;
+        return;
     }
-    return false;
 }

@@ -30,18 +30,23 @@ void lent_check(bool refused);
 /* True if these bytes of a lent buffer are as they were. */
 bool lent_kept(const void *from, size_t bytes);
 
-/* Makes a mistake as a wrong function could, so that the checks can be seen to find it; false if
- * the last call gives no occasion for it. */
+/* The mistakes that a wrong function could make. */
 enum mistake {
     NO_MISTAKE,
-    WRITE_BEHIND,
-    WRITE_BEFORE,
-    WRITE_READ_ONLY,
-    WRITE_REFUSED,
-    READ_BEHIND,
-    WRONG_CODE,
+    WRITE_BEHIND,    /* into a margin */
+    WRITE_BEFORE,    /* into a margin */
+    WRITE_READ_ONLY, /* what was lent to be read */
+    WRITE_REFUSED,   /* and refuse */
+    READ_BEHIND,     /* in the page behind */
+    READ_BEFORE,     /* in the page before */
+    WRONG_CODE,      /* or a wrong value of a function of floats */
+    WRONG_ANSWER,    /* an entry out of its range, in place of one that was written */
+    WRITE_KEPT,      /* an entry that an accepted call leaves as it was */
     MISTAKES
 };
-bool lent_mistake(enum mistake mistake, bool refused);
+
+/* Makes one with the buffers, so that the checks can be seen to find it; the last two are made in
+ * the buffer of this name. Nothing is done where the last call gives no occasion for it. */
+void lent_mistake(enum mistake mistake, const char *name, bool refused);
 
 #endif

@@ -10,6 +10,7 @@ use oracle::codes::{KINDS, Kinds, MODES, PHASES, kind_bytes, kinds_of_choice};
 use oracle::complex::{C32, C64};
 use oracle::ffi;
 use oracle::isdb::frame::FrameLayout;
+use oracle::isdb::ofdm;
 use oracle::isdb::params::{Mode, SEGMENTS};
 use oracle::isdb::rx;
 use oracle::rng::Rng;
@@ -130,7 +131,7 @@ fn layout_rows(effort: &Effort) -> Vec<Row> {
 }
 
 /// Every row of a mode.
-fn mode_rows(mode: Mode, inputs: &[Input], effort: &Effort) -> [Row; 5] {
+fn mode_rows(mode: Mode, inputs: &[Input], effort: &Effort) -> [Row; 6] {
     let at = |i: usize| black_box(&inputs[i % INPUTS]);
     let new = |i| FrameLayout::new(black_box(mode), at(i).kinds);
     let made: Vec<FrameLayout> = (0..INPUTS).map(new).collect();
@@ -175,6 +176,7 @@ fn mode_rows(mode: Mode, inputs: &[Input], effort: &Effort) -> [Row; 5] {
                 black_box(answers::signs(black_box(mode)));
             }),
         ),
+        bin_row(mode, effort),
     ]
 }
 
@@ -260,13 +262,40 @@ fn beside_sign_map(mode: Mode, effort: &Effort, rust: impl FnMut(usize)) -> Time
     time(effort, port, rust)
 }
 
+/// The bin of a carrier, timed over all carriers of the band.
+fn bin_row(mode: Mode, effort: &Effort) -> Row {
+    let carriers: Vec<usize> = (0..mode.total_carriers()).collect();
+    let number = mode.number();
+    let port = |k| {
+        let mut bin = 0;
+        let code = ffi::carrier_bin(black_box(number), k, &mut bin);
+        assert_eq!(code, 0, "the bin lookup is accepted");
+        bin as u64
+    };
+    let rust = |k| rust::carrier_bin(black_box(mode), k) as u64;
+    agree(&carriers, port, rust);
+    value_row(
+        format!("bin lookup, mode {number}"),
+        "`carrier_bin`",
+        &carriers,
+        effort,
+        port,
+        rust,
+    )
+}
+
 /// Number of inputs of a function of floats.
 const FLOATS: usize = 4096;
 
 /// The functions of the Rust. Each is called once for each value, as the port's is: inlined, the
 /// compiler would do several values at once.
 mod rust {
-    use super::{C32, C64};
+    use super::{C32, C64, Mode, ofdm};
+
+    #[inline(never)]
+    pub fn carrier_bin(mode: Mode, k: usize) -> usize {
+        ofdm::carrier_bin(mode, k)
+    }
 
     #[inline(never)]
     pub extern "C" fn root(x: f64) -> f64 {
@@ -346,8 +375,8 @@ fn short_subnormals() -> Vec<f64> {
     (0..FLOATS).map(number).collect()
 }
 
-/// A function of floats beside one of the Rust, timed for each value.
-fn float_row<I: Copy>(
+/// A function of a value beside one of the Rust, timed for each value.
+fn value_row<I: Copy>(
     operation: String,
     part: &'static str,
     inputs: &[I],
@@ -382,7 +411,7 @@ fn root_row(what: &str, inputs: &[f64], effort: &Effort) -> Row {
     let port = |x| ffi::root(x).to_bits();
     let sqrt = |x| rust::root(x).to_bits();
     agree(inputs, port, sqrt);
-    float_row(
+    value_row(
         format!("root, {what}"),
         "`sqrt`",
         inputs,
@@ -396,7 +425,7 @@ fn narrow_row(what: &str, inputs: &[f64], effort: &Effort) -> Row {
     let port = |x| u64::from(ffi::narrow(x).to_bits());
     let cast = |x| u64::from(rust::narrow(x).to_bits());
     agree(inputs, port, cast);
-    float_row(
+    value_row(
         format!("narrow, {what}"),
         "`as f32`",
         inputs,
@@ -418,8 +447,8 @@ fn norm_rows<I: Copy + Debug>(
     agree(inputs, &port, &sqrt);
     let part = "`sqrt`, the norm of the comparison";
     [
-        float_row(operation.clone(), part, inputs, effort, &port, &sqrt),
-        float_row(operation, "`hypot`", inputs, effort, &port, &hypot),
+        value_row(operation.clone(), part, inputs, effort, &port, &sqrt),
+        value_row(operation, "`hypot`", inputs, effort, &port, &hypot),
     ]
 }
 

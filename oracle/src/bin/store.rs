@@ -211,6 +211,30 @@ fn main() -> ExitCode {
 #[cfg(test)]
 mod tests {
     use super::*;
+    use std::path::Path;
+
+    #[test]
+    fn files_of_the_repository_are_what_is_written() {
+        let read = |name: &str| {
+            let path = Path::new(env!("CARGO_MANIFEST_DIR")).join("..").join(name);
+            fs::read(path).expect("the file can be read")
+        };
+        let answers = |questions: &str| -> Vec<u8> {
+            let text: String = lines(&read(questions)).into_iter().map(answer).collect();
+            text.into_bytes()
+        };
+        for (name, written) in [
+            ("crates/replay_layout/stdin", sample(1)),
+            ("crates/replay_tables/stdin", tables()),
+            ("crates/replay_acquire/stdin", stored_acquire::stored(1)),
+            ("crates/replay_grid/stdin", stored_grid::stored(1)),
+            ("tests/c/floats.stored", stored_floats::stored(1)),
+            ("crates/segments/stdout", answers("crates/segments/stdin")),
+            ("examples/licensed.out", answers("examples/licensed.txt")),
+        ] {
+            assert!(read(name) == written, "{name} is not what store writes");
+        }
+    }
 
     #[test]
     fn sample_is_small_and_begins_with_a_plain_layout() {
