@@ -411,12 +411,12 @@ fn guess_parts(guess: &Option<Guess>, gain: f64) -> (Option<(u8, u8, usize)>, [f
 impl Claim for GuessArguments {
     const NAME: &'static str = "guess, changed";
 
-    /// Samples are turned and amplified, and nothing else.
+    /// Samples are negated, all or none, turned and amplified, and nothing else.
     fn random(rng: &mut Rng) -> Changed<Self> {
         let mode = mostly_mode_1(rng);
         let number = *rng.pick(&GUARDS);
         let guard = GuardInterval::from_denominator(usize::from(number)).expect("a good guard");
-        let change = Change::random(rng, 0);
+        let change = Change::random(rng, 1);
         let fewest = fewest_pairs(mode, guard);
         let pairs = if rng.once_in(16) {
             fewest - 1 - rng.below(fewest)
@@ -438,7 +438,7 @@ impl Claim for GuessArguments {
         }
     }
 
-    /// Both parts are kept under the turn, and multiplied by the gain twice.
+    /// Both parts are kept under signs and turn, and multiplied by the gain twice.
     fn verdict(port: &Port, case: &Changed<Self>) -> Verdict {
         let pairs = case.floats.0.len() / 2;
         let before = case.arguments.ask(port, &case.floats.0);

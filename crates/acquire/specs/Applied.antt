@@ -3,7 +3,7 @@
 -- and of samples, which are spectra of one pair (`taken`).
 -- Assumes nothing.
 use Prim.Native.Nat.{ℕ, suc, _+_, _*_, _/_, _%_, _≤_, _<_}
-use mathlib.Core.Bool.{Bool, false, cond}
+use mathlib.Core.Bool.{Bool, cond}
 use mathlib.Core.List.{List}
 use mathlib.Core.Path.{_≡_, refl, sym, ap, _∙_}
 use native.Mathlib.Nat.{add-zero, mul-comm, mul-le-mul-right, mul-assoc, suc-mul, mul-div-le, mod-eq-of-lt}
@@ -98,12 +98,12 @@ in-place c len xs =
     }
 
 -- the changes of the guess
-abbrev pub changedSamples : Bool → ℕ → List Float → List Float
-changedSamples turns gain = changed (record { negates = λ j. false; turns = turns; gain = gain }) 1 (pos 0)
+abbrev pub changedSamples : Bool → Bool → ℕ → List Float → List Float
+changedSamples negates turns gain = changed (record { negates = λ j. negates; turns = turns; gain = gain }) 1 (pos 0)
 
-pub taken : (turns : Bool) (gain : ℕ) (xs : List Float) → Taken turns gain xs (changedSamples turns gain xs)
-taken turns gain xs =
-    let a = in-place (record { negates = λ j. false; turns = turns; gain = gain }) 1 xs in
+pub taken : (negates turns : Bool) (gain : ℕ) (xs : List Float) → Taken negates turns gain xs (changedSamples negates turns gain xs)
+taken negates turns gain xs =
+    let a = in-place (record { negates = λ j. negates; turns = turns; gain = gain }) 1 xs in
     record {
       long = a .long;
       pairs = λ i l. let at : i * 1 + 0 ≡ i = omega arith in rw at at (a .pairs i 0 l (omega arith));

@@ -1,7 +1,7 @@
 -- DEMAND 3. Whatever the spectra and samples hold, they are not judged differently for being negated, turned by a quarter, amplified by a power
--- of two or (the shift) moved. A change takes all of these together: single spectra negated, all turned or none, all amplified by 2 ^ gain. Its
--- gain is 1, or at most 256 on whole-number parts from -32,768 to 32,768 (`Allowed`); without a gain this holds for all spectra and samples,
--- NaNs and infinities too. It is stated over the very definitions that the operations' contracts cite.
+-- of two or (the shift) moved. A change takes all of these together: single spectra negated (of samples all or none), all turned or none, all
+-- amplified by 2 ^ gain. Its gain is 1, or at most 256 on whole-number parts from -32,768 to 32,768 (`Allowed`); without a gain this holds for
+-- all spectra and samples, NaNs and infinities too. It is stated over the very definitions that the operations' contracts cite.
 -- Assumes nothing.
 use Prim.Native.Nat.{ℕ, _+_, _%_, _≤_, _<_}
 use borrow.Author.Tests.{leb-true}
@@ -16,12 +16,13 @@ use Rattle.lists.specs.Refusals.{passed}
 use Rattle.lists.specs.Select.{getD-upTo}
 use Rattle.params.specs.declared.Mode.{Mode}
 use Rattle.params.specs.declared.Mode.the-variants.{M1, M2, M3}
+use Rattle.params.specs.declared.ModeNumber.{ModeNumber}
 use Rattle.params.specs.declared.ModeNumber.the-variants.{Known}
 use Rattle.params.specs.Params.{fftSize, totalCarriers}
 use Rattle.spectra.specs.Spectra.{spectraIn, binPairs}
-use Rattle.spectra.specs.Accepted.{accepted as spectra-accepted}
 use Rattle.spectra.specs.Changes.{Change, Changed, Allowed}
-use Rattle.ratio.specs.Ratio.{ratios, ratioOf}
+use Rattle.ratio.specs.Ratio.{ratios, ratioOf, metricLeaves}
+use Rattle.ratio.specs.Accepted.{accepted as accepted-ratios}
 use Rattle.ratio.specs.Unchanged.{changed-ratios, changed-ratio-at}
 use Rattle.shift.specs.declared.ShiftAnswer.{ShiftAnswer}
 use Rattle.shift.specs.declared.ShiftAnswer.the-variants.{Shift, Refused}
@@ -37,10 +38,16 @@ use Rattle.pilot_phase.specs.PilotPhase.{phaseCode, phaseAnswer, countsAnswer, 
 use Rattle.pilot_phase.specs.Changed.{changed-phase, changed-counts}
 use Rattle.segment_kinds.specs.SegmentKinds.{kindsCode, kindsLeaves, kindsAnswer, scoresAnswer, detectedKinds, kindScores}
 
+-- ---- refusals: ys is refused by the same number as xs, or accepted as xs is, whatever the two hold; `mode` is any number, also one that is no
+-- mode, which is refused by 1
+pub record RefusedAlike (xs ys : List Float) : Type 0 where
+  pub shift : (mode : ModeNumber) (ratios bound : ℕ) → shiftCode mode (length ys) ratios bound ≡ shiftCode mode (length xs) ratios bound
+  pub kinds : (mode : ModeNumber) (ratios : ℕ) → kindsCode mode (length ys) ratios ≡ kindsCode mode (length xs) ratios
+  pub phase : (mode : ModeNumber) (kinds : List ℕ) → phaseCode mode kinds (length ys) ≡ phaseCode mode kinds (length xs)
+  pub guess : (modes guards : List ℕ) (scratch : ℕ) → guessCode modes guards (length ys) scratch ≡ guessCode modes guards (length xs) scratch
+
 -- ---- the shift: spectra xs of n pairs, changed and their bins moved round by s
 pub record ShiftKept (mode : Mode) (bound : ℕ) (s : ℤ) (xs ys old : List Float) : Type 0 where
-  -- refused by the same number, or accepted
-  pub code : shiftCode (Known mode) (length ys) (length old) bound ≡ shiftCode (Known mode) (length xs) (length old) bound
   -- after an accepted call the ratios left behind are moved round by s, bit for bit
   pub ratios : shiftCode (Known mode) (length xs) (length old) bound ≡ 0
       → MovedRound (fftSize mode) s (shiftLeaves (Known mode) xs bound old) (shiftLeaves (Known mode) ys bound old)
@@ -53,33 +60,31 @@ pub record ShiftKept (mode : Mode) (bound : ℕ) (s : ℤ) (xs ys old : List Flo
 
 -- ---- the kinds: spectra of k_total pairs, changed
 pub record KindsKept (mode : Mode) (xs ys old : List Float) : Type 0 where
-  pub code : kindsCode (Known mode) (length ys) (length old) ≡ kindsCode (Known mode) (length xs) (length old)
   pub kinds : kindsAnswer (Known mode) ys (length old) ≡ kindsAnswer (Known mode) xs (length old)
   pub scores : scoresAnswer (Known mode) ys (length old) ≡ scoresAnswer (Known mode) xs (length old)
   pub ratios : kindsLeaves (Known mode) ys old ≡ kindsLeaves (Known mode) xs old
 
 -- ---- the pilot phase: spectra of k_total pairs, changed; none, or the phase with its share, the four counts and the lead
 pub record PhaseKept (mode : Mode) (kinds : List ℕ) (xs ys : List Float) : Type 0 where
-  pub code : phaseCode (Known mode) kinds (length ys) ≡ phaseCode (Known mode) kinds (length xs)
   pub phase : phaseAnswer (Known mode) kinds ys ≡ phaseAnswer (Known mode) kinds xs
   pub counts : countsAnswer (Known mode) kinds ys ≡ countsAnswer (Known mode) kinds xs
   pub lead : leadOf (countsAnswer (Known mode) kinds ys) ≡ leadOf (countsAnswer (Known mode) kinds xs)
 
--- ---- the guess: samples, turned and amplified. Found or not, mode, guard, offset and metric are the same, and both parts of the correlation are
--- multiplied by the gain twice
-pub record GuessKept (gain : ℕ) (modes guards : List ℕ) (scratch : ℕ) (xs ys : List Float) : Type 0 where
-  pub code : guessCode modes guards (length ys) scratch ≡ guessCode modes guards (length xs) scratch
-  pub answer : guessAnswer ys modes guards scratch ≡ louder gain (guessAnswer xs modes guards scratch)
+-- ---- the guess: samples, negated, turned and amplified. Found or not, mode, guard, offset and metric are the same, and both parts of the
+-- correlation are multiplied by the gain twice (`louder`)
+abbrev pub GuessKept : ℕ → List ℕ → List ℕ → ℕ → List Float → List Float → Type 0
+GuessKept gain modes guards scratch xs ys = guessAnswer ys modes guards scratch ≡ louder gain (guessAnswer xs modes guards scratch)
 
--- ---- DEMAND 3, for every change c and move s. A number that is no mode is refused by 1 whatever is handed in with it
+-- ---- DEMAND 3, for every change c and move s
 pub record Demand3 (c : Change) (s : ℤ) : Type 0 where
+  pub refusals : (xs ys : List Float) → length ys ≡ length xs → RefusedAlike xs ys
   pub shift : (mode : Mode) (bound : ℕ) (xs ys old : List Float) → Allowed c (fftSize mode) xs → Changed c (fftSize mode) (λ b. movedBin (fftSize mode) b s) xs ys
       → ShiftKept mode bound s xs ys old
   pub kinds : (mode : Mode) (xs ys old : List Float) → Allowed c (totalCarriers mode) xs → Changed c (totalCarriers mode) (λ b. b) xs ys → KindsKept mode xs ys old
   pub phase : (mode : Mode) (kinds : List ℕ) (xs ys : List Float) → Allowed c (totalCarriers mode) xs → Changed c (totalCarriers mode) (λ b. b) xs ys
       → PhaseKept mode kinds xs ys
-  pub guess : (modes guards : List ℕ) (scratch : ℕ) (xs ys : List Float) → AllowedGain (c .gain) xs → Taken (c .turns) (c .gain) xs ys
-      → GuessKept (c .gain) modes guards scratch xs ys
+  pub guess : (negates : Bool) (modes guards : List ℕ) (scratch : ℕ) (xs ys : List Float) → AllowedGain (c .gain) xs
+      → Taken negates (c .turns) (c .gain) xs ys → GuessKept (c .gain) modes guards scratch xs ys
 
 -- ==== proofs
 
@@ -98,7 +103,7 @@ module _ (c : Change) (mode : Mode) (xs ys old : List Float) (A : Allowed c (tot
 
   same-ratios : kindsCode (Known mode) (length xs) (length old) ≡ 0 → ratios (totalCarriers mode) ys ≡ ratios (totalCarriers mode) xs
   unfolding kindsCode
-  same-ratios e = changed-ratios c (totalCarriers mode) xs ys (spectra-accepted (totalCarriers mode) (length xs) _ e .few) A h
+  same-ratios e = changed-ratios c (totalCarriers mode) xs ys (accepted-ratios (totalCarriers mode) (length xs) (length old) 0 e .few) A h
 
   -- whatever is made of the ratios of an accepted call
   by-ratios : {B : Type 0} (f : List Float → B) (z : B)
@@ -108,10 +113,9 @@ module _ (c : Change) (mode : Mode) (xs ys old : List Float) (A : Allowed c (tot
       ∙ accepted (kindsCode (Known mode) (length xs) (length old)) (f (ratios (totalCarriers mode) ys)) (f (ratios (totalCarriers mode) xs)) z (λ e. ap f (same-ratios e))
 
   pub kinds-kept : KindsKept mode xs ys old
-  unfolding kindsAnswer scoresAnswer kindsLeaves
+  unfolding kindsCode kindsAnswer scoresAnswer kindsLeaves metricLeaves
   kinds-kept =
       record {
-        code = kinds-code;
         kinds = by-ratios (detectedKinds mode) _;
         scores = by-ratios (kindScores mode) _;
         ratios = by-ratios (λ r. r) old;
@@ -141,7 +145,7 @@ module _ (c : Change) (mode : Mode) (bound : ℕ) (s : ℤ) (xs ys old : List Fl
 
   few-spectra : shiftCode (Known mode) (length xs) (length old) bound ≡ 0 → spectraIn (fftSize mode) (length xs) ≤ 1024
   unfolding shiftCode
-  few-spectra e = spectra-accepted (fftSize mode) (length xs) _ e .few
+  few-spectra e = accepted-ratios (fftSize mode) (length xs) (length old) _ e .few
 
   moved-ratios : spectraIn (fftSize mode) (length xs) ≤ 1024 → MovedRound (fftSize mode) s (ratios (fftSize mode) xs) (ratios (fftSize mode) ys)
   unfolding ratios
@@ -199,7 +203,6 @@ module _ (c : Change) (mode : Mode) (bound : ℕ) (s : ℤ) (xs ys old : List Fl
   pub shift-kept : ShiftKept mode bound s xs ys old
   shift-kept =
       record {
-        code = shift-code;
         ratios = λ e. rw (leaves xs e, leaves ys (shift-code ∙ e)) (moved-ratios (few-spectra e));
         answer = not-moved;
         moved = moved-along;
@@ -209,49 +212,55 @@ module _ (c : Change) (mode : Mode) (bound : ℕ) (s : ℤ) (xs ys old : List Fl
 phase-kept : (c : Change) (mode : Mode) (kinds : List ℕ) (xs ys : List Float) → Allowed c (totalCarriers mode) xs → Changed c (totalCarriers mode) (λ b. b) xs ys → PhaseKept mode kinds xs ys
 phase-kept c mode kinds xs ys A h =
     record {
-      code = ap (phaseCode (Known mode) kinds) (h .long);
       phase = changed-phase c mode kinds xs ys A h;
       counts = changed-counts c mode kinds xs ys A h;
       lead = ap leadOf (changed-counts c mode kinds xs ys A h);
     }
 
 -- ---- the guess
--- what an accepted call tells of its lists and lengths
-codes : (modes guards : List ℕ) (floats scratch : ℕ) → guessCode modes guards floats scratch ≡ 0 → (allIn isMode modes ≡ true) × (allIn isGuard guards ≡ true) × (pairsIn floats ≤ 1048576)
+-- what an accepted call tells of its modes and lengths
+modes-few : (modes guards : List ℕ) (floats scratch : ℕ) → guessCode modes guards floats scratch ≡ 0 → (allIn isMode modes ≡ true) × (pairsIn floats ≤ 1048576)
 unfolding guessCode
-codes modes guards floats scratch e =
+modes-few modes guards floats scratch e =
     let a = passed (allIn isMode modes) 1 _ (lit< tt) e in
     let b = passed (allIn isGuard guards) 9 _ (lit< tt) (a .rest) in
     let even = eqb (floats % 2) 0 in
     let few = leb (pairsIn floats) 1048576 in
     let d = passed (even && few) 5 _ (lit< tt) (b .rest) in
-    (a .first, b .first, leb-true _ _ (both-right even few (d .first)))
+    (a .first, leb-true _ _ (both-right even few (d .first)))
 
-guess-kept : (turns : Bool) (gain : ℕ) (modes guards : List ℕ) (scratch : ℕ) (xs ys : List Float) → AllowedGain gain xs → Taken turns gain xs ys → GuessKept gain modes guards scratch xs ys
+guess-kept : (negates turns : Bool) (gain : ℕ) (modes guards : List ℕ) (scratch : ℕ) (xs ys : List Float) → AllowedGain gain xs → Taken negates turns gain xs ys
+    → GuessKept gain modes guards scratch xs ys
 unfolding guessAnswer
-guess-kept turns gain modes guards scratch xs ys A h =
+guess-kept negates turns gain modes guards scratch xs ys A h =
     let C = guessCode modes guards (length xs) scratch in
-    let same : guessCode modes guards (length ys) scratch ≡ C = ap (λ (k : ℕ). guessCode modes guards k scratch) (h .long) in
-    record {
-      code = same;
-      answer =
-          ap (λ (k : ℕ). cond (eqb k 0) (guessed ys modes guards) (search.Refused k)) same
-          ∙ accepted C (guessed ys modes guards) (louder gain (guessed xs modes guards)) (search.Refused C) (λ e. inner e)
-          ∙ outside (eqb C 0);
-    }
+    ap (λ (k : ℕ). cond (eqb (guessCode modes guards k scratch) 0) (guessed ys modes guards) (search.Refused (guessCode modes guards k scratch))) (h .long)
+    ∙ accepted C (guessed ys modes guards) (louder gain (guessed xs modes guards)) (search.Refused C) (λ e. inner e)
+    ∙ outside (eqb C 0)
   where
     outside : (b : Bool) → cond b (louder gain (guessed xs modes guards)) (search.Refused (guessCode modes guards (length xs) scratch)) ≡ louder gain (cond b (guessed xs modes guards) (search.Refused (guessCode modes guards (length xs) scratch)))
     outside true = refl
     outside false = refl
 
     inner : guessCode modes guards (length xs) scratch ≡ 0 → guessed ys modes guards ≡ louder gain (guessed xs modes guards)
-    inner e = let p = codes modes guards (length xs) scratch e in changed-guess turns gain xs ys modes guards (p .0) (p .1) (p .2) A h
+    inner e = let p = modes-few modes guards (length xs) scratch e in changed-guess negates turns gain xs ys modes guards (p .0) (p .1) A h
+
+-- ---- refusals: each is a function of lengths and codes
+refused-alike : (xs ys : List Float) → length ys ≡ length xs → RefusedAlike xs ys
+refused-alike xs ys long =
+    record {
+      shift = λ mode ratios bound. ap (λ (k : ℕ). shiftCode mode k ratios bound) long;
+      kinds = λ mode ratios. ap (λ (k : ℕ). kindsCode mode k ratios) long;
+      phase = λ mode kinds. ap (phaseCode mode kinds) long;
+      guess = λ modes guards scratch. ap (λ (k : ℕ). guessCode modes guards k scratch) long;
+    }
 
 pub demand-3 : (c : Change) (s : ℤ) → Demand3 c s
 demand-3 c s =
     record {
+      refusals = refused-alike;
       shift = λ mode bound xs ys old A h. shift-kept c mode bound s xs ys old A h;
       kinds = λ mode xs ys old A h. kinds-kept c mode xs ys old A h;
       phase = λ mode kinds xs ys A h. phase-kept c mode kinds xs ys A h;
-      guess = λ modes guards scratch xs ys A h. guess-kept (c .turns) (c .gain) modes guards scratch xs ys A h;
+      guess = λ negates modes guards scratch xs ys A h. guess-kept negates (c .turns) (c .gain) modes guards scratch xs ys A h;
     }

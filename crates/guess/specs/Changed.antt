@@ -1,6 +1,6 @@
--- The guess does not hang on the phase or the gain at which the recorder ran. A quarter turn of every sample changes nothing; a gain by a
--- power of two, on samples with whole-number parts, keeps whether something is found, mode, guard, offset and metric, bit for bit, and
--- multiplies both parts of the correlation by the gain twice. Without a gain this holds for all samples.
+-- The guess does not hang on the phase or the gain at which the recorder ran. A change of sign or a quarter turn of every sample changes
+-- nothing; a gain by a power of two, on samples with whole-number parts, keeps whether something is found, mode, guard, offset and metric, bit
+-- for bit, and multiplies both parts of the correlation by the gain twice. Without a gain this holds for all samples.
 -- Assumes nothing.
 use Prim.Native.Nat.{ℕ, zero, suc, _+_, _-_, _*_, _≤_, _<_}
 use mathlib.Core.Bool.{Bool, true, false, cond}
@@ -18,13 +18,13 @@ use Rattle.ieee.specs.Levels.{Scaled, two}
 use Rattle.ieee.specs.Times.{Times, zero-times, le-times}
 use Rattle.ieee.specs.Gain.{times-of, scaled-product}
 use Rattle.complex.specs.Complex.{Pair, product, conjugate, squaredSize, norm64}
-use Rattle.complex.specs.Turns.{turned-product, turned-size}
+use Rattle.complex.specs.Turns.{turned, negated, turned-product, both-negated-product, turned-size, negated-size}
 use Rattle.complex.specs.Gains.{BothScaled}
 use Rattle.complex.specs.Bounds.{most, WholePair, amplified, partLevel, stepLevel, energyLevel, guessLevel}
 use Rattle.complex.specs.Bounds.{part-gain, step-gain, energy-gain, metric-gain, correlation-roomy}
 use Rattle.spectra.specs.Spectra.{pairAt}
 use Rattle.spectra.specs.Changes.{turnIf, gainBy}
-use Rattle.guess.specs.Samples.{isMode, isGuard, fftOf, guardOf, symbolOf}
+use Rattle.guess.specs.Samples.{isMode, fftOf, guardOf, symbolOf}
 use Rattle.guess.specs.Guess.{pairsIn, lagsIn, lagProduct, lagEnergy, correlationAt, energyAt, guessAt}
 use Rattle.guess.specs.Guess.{beats, offered, scan, triedGuard, triedMode, guessed}
 use Rattle.guess.specs.Windows.{correlation-same, energy-same, correlation-louder, energy-louder, correlation-fits}
@@ -32,10 +32,10 @@ use Rattle.guess.specs.declared.ModeGuess.{ModeGuess}
 use Rattle.guess.specs.declared.GuardSearch.{GuardSearch}
 use Rattle.guess.specs.declared.GuardSearch.the-variants.{Found, Nothing, Refused}
 
--- ys is xs, every pair turned by a quarter or none, and amplified by 2 ^ gain
-pub record Taken (turns : Bool) (gain : ℕ) (xs ys : List Float) : Type 0 where
+-- ys is xs, every pair negated or none, turned by a quarter or none, and amplified by 2 ^ gain
+pub record Taken (negates turns : Bool) (gain : ℕ) (xs ys : List Float) : Type 0 where
   pub long : length ys ≡ length xs
-  pub pairs : (i : ℕ) → i < pairsIn (length xs) → pairAt ys i ≡ turnIf turns (gainBy gain (pairAt xs i))
+  pub pairs : (i : ℕ) → i < pairsIn (length xs) → pairAt ys i ≡ negated negates (turnIf turns (gainBy gain (pairAt xs i)))
 
 -- the gain is 1, or it is at most 256 and all parts are whole numbers from -32,768 to 32,768
 abbrev pub AllowedGain : ℕ → List Float → Type 0
@@ -119,14 +119,14 @@ module _ (k : ℕ) (xs ys : List Float) (long : length ys ≡ length xs)
   unfolding guessed
   search-louder modes guards M = louder-scan k isMode (triedMode ys guards) (triedMode xs guards) modes Nothing M (λ b mode m. mode-louder guards b mode m)
 
--- ---- two samples n apart: the turn cancels, and the gain stays
-turned-lag : (b : Bool) (x y : Pair) → product binary32 (turnIf b x) (conjugate (turnIf b y)) ≡ product binary32 x (conjugate y)
-turned-lag true x y = turned-product binary32 x y
-turned-lag false x y = refl
+-- ---- two samples n apart: signs and turn cancel, and the gain stays
+turned-lag : (s t : Bool) (x y : Pair) → product binary32 (negated s (turnIf t x)) (conjugate (negated s (turnIf t y))) ≡ product binary32 x (conjugate y)
+turned-lag s true x y = both-negated-product binary32 s (turned x) (turned y) ∙ turned-product binary32 x y
+turned-lag s false x y = both-negated-product binary32 s x y
 
-turned-sample : (b : Bool) (x : Pair) → squaredSize binary32 (turnIf b x) ≡ squaredSize binary32 x
-turned-sample true x = turned-size binary32 x
-turned-sample false x = refl
+turned-sample : (s t : Bool) (x : Pair) → squaredSize binary32 (negated s (turnIf t x)) ≡ squaredSize binary32 x
+turned-sample s true x = negated-size binary32 s (turned x) ∙ turned-size binary32 x
+turned-sample s false x = negated-size binary32 s x
 
 abbrev halved : Float → Float → Float
 halved a b = mul binary64 (add binary32 a b) half
@@ -138,20 +138,20 @@ first-in m n i h = omega arith
 second-in : (m n i : ℕ) → i < m - n → i + n < m
 second-in m n i h = omega arith
 
-module _ (turns : Bool) (gain : ℕ) (xs ys : List Float) (h : Taken turns gain xs ys) (n i : ℕ) (I : i < lagsIn n xs) where
-  p : pairAt ys i ≡ turnIf turns (gainBy gain (pairAt xs i))
+module _ (negates turns : Bool) (gain : ℕ) (xs ys : List Float) (h : Taken negates turns gain xs ys) (n i : ℕ) (I : i < lagsIn n xs) where
+  p : pairAt ys i ≡ negated negates (turnIf turns (gainBy gain (pairAt xs i)))
   p = h .pairs i (first-in (pairsIn (length xs)) n i I)
 
-  q : pairAt ys (i + n) ≡ turnIf turns (gainBy gain (pairAt xs (i + n)))
+  q : pairAt ys (i + n) ≡ negated negates (turnIf turns (gainBy gain (pairAt xs (i + n))))
   q = h .pairs (i + n) (second-in (pairsIn (length xs)) n i I)
 
   lag-product : lagProduct n ys i ≡ product binary32 (gainBy gain (pairAt xs i)) (conjugate (gainBy gain (pairAt xs (i + n))))
-  lag-product = (λ j. product binary32 (p j) (conjugate (q j))) ∙ turned-lag turns (gainBy gain (pairAt xs i)) (gainBy gain (pairAt xs (i + n)))
+  lag-product = (λ j. product binary32 (p j) (conjugate (q j))) ∙ turned-lag negates turns (gainBy gain (pairAt xs i)) (gainBy gain (pairAt xs (i + n)))
 
   lag-energy : lagEnergy n ys i ≡ halved (squaredSize binary32 (gainBy gain (pairAt xs i))) (squaredSize binary32 (gainBy gain (pairAt xs (i + n))))
   lag-energy =
       (λ j. halved (squaredSize binary32 (p j)) (squaredSize binary32 (q j)))
-      ∙ (λ j. halved (turned-sample turns (gainBy gain (pairAt xs i)) j) (turned-sample turns (gainBy gain (pairAt xs (i + n))) j))
+      ∙ (λ j. halved (turned-sample negates turns (gainBy gain (pairAt xs i)) j) (turned-sample negates turns (gainBy gain (pairAt xs (i + n))) j))
 
 -- the guess at an offset is these sums
 guess-is : (k : ℕ) (xs ys : List Float) (mode guard d : ℕ) → let c = correlationAt xs mode guard d in let e = correlationAt ys mode guard d in
@@ -161,11 +161,11 @@ unfolding guessAt
 guess-is k xs ys mode guard d m r i = λ j. record { mode = mode; guard = guard; offset = d; metric = m j; re = r j; im = i j }
 
 -- ---- without a gain all sums are the same
-module _ (turns : Bool) (xs ys : List Float) (h : Taken turns 0 xs ys) (mode guard d : ℕ) where
+module _ (negates turns : Bool) (xs ys : List Float) (h : Taken negates turns 0 xs ys) (mode guard d : ℕ) where
   turned-kept : Kept 0 xs ys mode guard d
   turned-kept =
-      let c = correlation-same xs ys (h .long) mode guard d (λ i I. lag-product turns 0 xs ys h (fftOf mode) i I) in
-      let e = energy-same xs ys (h .long) mode guard d (λ i I. lag-energy turns 0 xs ys h (fftOf mode) i I) in
+      let c = correlation-same xs ys (h .long) mode guard d (λ i I. lag-product negates turns 0 xs ys h (fftOf mode) i I) in
+      let e = energy-same xs ys (h .long) mode guard d (λ i I. lag-energy negates turns 0 xs ys h (fftOf mode) i I) in
       record {
         passed = ap (λ (z : Float). le z (plusZero binary64)) e;
         guess =
@@ -179,8 +179,8 @@ at-zero-gain k x y h =
     sym (le-times (2 * k) x y _ _ (times-of k (guessLevel energyLevel) x y h)
     (subst (λ (z : Float). Times (2 * k) z z) (sym (plus-zero-is binary64)) (zero-times (2 * k) false)))
 
-module _ (turns : Bool) (g : ℕ) (K : suc g ≤ most) (xs ys : List Float) (N : pairsIn (length xs) ≤ 1048576)
-    (w : (i : ℕ) → i < pairsIn (length xs) → WholePair (pairAt xs i)) (h : Taken turns (suc g) xs ys) where
+module _ (negates turns : Bool) (g : ℕ) (K : suc g ≤ most) (xs ys : List Float) (N : pairsIn (length xs) ≤ 1048576)
+    (w : (i : ℕ) → i < pairsIn (length xs) → WholePair (pairAt xs i)) (h : Taken negates turns (suc g) xs ys) where
   abbrev k : ℕ
   k = suc g
 
@@ -193,11 +193,11 @@ module _ (turns : Bool) (g : ℕ) (K : suc g ≤ most) (xs ys : List Float) (N :
 
     gained-product : BothScaled stepLevel k (lagProduct n xs i) (lagProduct n ys i)
     gained-product =
-        subst (λ (z : Pair). BothScaled stepLevel k (lagProduct n xs i) z) (sym (lag-product turns k xs ys h n i I)) (step-gain k K _ _ _ _ a b)
+        subst (λ (z : Pair). BothScaled stepLevel k (lagProduct n xs i) z) (sym (lag-product negates turns k xs ys h n i I)) (step-gain k K _ _ _ _ a b)
 
     gained-energy : Scaled energyLevel k (lagEnergy n xs i) (lagEnergy n ys i)
     gained-energy =
-        subst (λ (z : Float). Scaled energyLevel k (lagEnergy n xs i) z) (sym (lag-energy turns k xs ys h n i I)) (energy-gain k K _ _ _ _ a b)
+        subst (λ (z : Float). Scaled energyLevel k (lagEnergy n xs i) z) (sym (lag-energy negates turns k xs ys h n i I)) (energy-gain k K _ _ _ _ a b)
 
   gained-kept : (mode guard d : ℕ) → isMode mode ≡ true → Kept k xs ys mode guard d
   gained-kept mode guard d m =
@@ -213,12 +213,12 @@ module _ (turns : Bool) (g : ℕ) (K : suc g ≤ most) (xs ys : List Float) (N :
             (scaled-product binary64 most k (guessLevel stepLevel) _ _ K correlation-roomy (p .1) (q .1) (c .im));
       }
 
-pub changed-guess : (turns : Bool) (gain : ℕ) (xs ys : List Float) (modes guards : List ℕ) → allIn isMode modes ≡ true → allIn isGuard guards ≡ true
-    → pairsIn (length xs) ≤ 1048576 → AllowedGain gain xs → Taken turns gain xs ys → guessed ys modes guards ≡ louder gain (guessed xs modes guards)
-changed-guess turns zero xs ys modes guards M G N A h =
-    search-louder 0 xs ys (h .long) (λ mode guard d m. turned-kept turns xs ys h mode guard d) modes guards M
-changed-guess turns (suc g) xs ys modes guards M G N A h =
+pub changed-guess : (negates turns : Bool) (gain : ℕ) (xs ys : List Float) (modes guards : List ℕ) → allIn isMode modes ≡ true → pairsIn (length xs) ≤ 1048576
+    → AllowedGain gain xs → Taken negates turns gain xs ys → guessed ys modes guards ≡ louder gain (guessed xs modes guards)
+changed-guess negates turns zero xs ys modes guards M N A h =
+    search-louder 0 xs ys (h .long) (λ mode guard d m. turned-kept negates turns xs ys h mode guard d) modes guards M
+changed-guess negates turns (suc g) xs ys modes guards M N A h =
     elim A [
       | inl z ↦ absurd (omega arith)
-      | inr w ↦ search-louder (suc g) xs ys (h .long) (λ mode guard d m. gained-kept turns g (w .0) xs ys N (w .1) h mode guard d m) modes guards M
+      | inr w ↦ search-louder (suc g) xs ys (h .long) (λ mode guard d m. gained-kept negates turns g (w .0) xs ys N (w .1) h mode guard d m) modes guards M
     ]

@@ -222,6 +222,18 @@ lt-le-trans x y z h k = lt-of-no-le x z (number-l x y (lt-le x y h)) (number-r y
 pub le-lt-trans : (x y z : Float) → T (le x y) → T (lt y z) → T (lt x z)
 le-lt-trans x y z h k = lt-of-no-le x z (number-l x y h) (number-r y z (lt-le y z k)) (λ g. lt-no-le y z k (le-trans z x y g h))
 
+-- what beats something is no NaN
+pub greater-number : (x y : Float) → T (lt x y) → isNan y ≡ false
+greater-number x y h = number-r x y (lt-le x y h)
+
+-- a number is at or below itself
+pub le-self : (x : Float) → isNan x ≡ false → T (le x x)
+le-self x n = by (le x x) (lt-not-le x x n n)
+  where
+    by : (b : Bool) → lt x x ≡ not b → T b
+    by true e = tt
+    by false e = absurd (true≢false (sym e ∙ lt-asym x x (subst T (sym e) tt)))
+
 pub lt-trans : (x y z : Float) → T (lt x y) → T (lt y z) → T (lt x z)
 lt-trans x y z h k = lt-le-trans x y z h (lt-le y z k)
 
@@ -326,16 +338,16 @@ quotient-beats f x y d p h =
     lt-of-no-le x y (sym (quotient-nan f x d p) ∙ number-l a b k) (sym (quotient-nan f y d p) ∙ number-r a b k)
     (λ g. lt-no-le a b h (quotient-mono f y x d p g))
 
--- ---- `f32::MIN` loses to what has no minus sign and beats something, which a NaN does not
-pub lowest-loses : (x y : Float) → T (lt x y) → negative y ≡ false → T (lt lowest y)
-unfolding lt
-lowest-loses x nan h p = absurd (subst T (lt-nan x) h)
-lowest-loses x (inf true) h p = absurd (true≢false p)
-lowest-loses x (inf false) h p = rw lowest-is tt
-lowest-loses x (fin true n d) h p = absurd (true≢false p)
-lowest-loses x (fin false n d) h p =
+-- ---- a number that has no minus sign beats `f32::MIN`
+pub lowest-loses : (y : Float) → isNan y ≡ false → negative y ≡ false → T (lt lowest y)
+unfolding lt isNan
+lowest-loses nan n p = absurd (true≢false n)
+lowest-loses (inf true) n p = absurd (true≢false p)
+lowest-loses (inf false) n p = rw lowest-is tt
+lowest-loses (fin true m d) n p = absurd (true≢false p)
+lowest-loses (fin false m d) n p =
     let some : 0 < 16777215 * 2 ^ 104 = lit< tt in
-    rw lowest-is (lt→ltb 0 (16777215 * 2 ^ 104 * down d + n * up d * 1) (still _ (n * up d * 1) (mul-pos some (down-pos d))))
+    rw lowest-is (lt→ltb 0 (16777215 * 2 ^ 104 * down d + m * up d * 1) (still _ (m * up d * 1) (mul-pos some (down-pos d))))
   where
     still : (a b : ℕ) → 0 < a → 0 < a + b
     still a b h = omega arith

@@ -30,7 +30,7 @@ use Rattle.frame.specs.Roles.{OfdmSegment, roleByte, placeRole, segmentRoles, b
 use Rattle.frame.specs.OneRole.{segment-length}
 use Rattle.frame.specs.Operations.{areKinds}
 use Rattle.pilot_phase.specs.declared.PilotPhase.the-variants.{Phase}
-use Rattle.pilot_phase.specs.PilotPhase.{pilots, twelveApart, choiceOf, voteOf, spectrumAt, votes, countOf, countsOf, better, wonBy, shareOf, nextTo, phaseCode, phaseAnswer}
+use Rattle.pilot_phase.specs.PilotPhase.{pilots, twelveApart, choiceOf, voteOf, spectrumAt, votes, countOf, countsOf, better, wonBy, shareOf, nextTo, phaseCode, phaseAnswer, countsAnswer}
 use Rattle.pilot_phase.specs.Pilots.{isPilot, place-pilot, last-chosen, twelves}
 use Rattle.pilot_phase.specs.Most.{larger-one, larger-high, other, mostFrom, all-most}
 
@@ -56,6 +56,12 @@ votes-total mode kinds xs =
     let n = spectraIn (totalCarriers mode) (length xs) in
     let vote : ℕ → ℕ = λ j. voteOf j (choiceOf mode kinds (spectrumAt (totalCarriers mode) xs j)) in
     all-counted (upTo vote n) (λ i l. rw (getD-upTo vote n i 0 (rw (length-upTo vote n) at l)) (mod-lt _ (lit< tt))) ∙ length-upTo vote n
+
+-- so the answer's counts add up to the number of spectra, where there are pilots
+pub counts-total : (mode : Mode) (kinds : List ℕ) (xs : List Float) → phaseCode (Known mode) kinds (length xs) ≡ 0 → eqb (length (pilots mode kinds 0)) 0 ≡ false
+    → let counts = countsAnswer (Known mode) kinds xs in getD counts 0 0 + getD counts 1 0 + getD counts 2 0 + getD counts 3 0 ≡ spectraIn (totalCarriers mode) (length xs)
+unfolding countsAnswer countsOf
+counts-total mode kinds xs accepted some = rw (accepted, some) (votes-total mode kinds xs)
 
 -- ---- the phase that wins
 -- w has the most votes of the phases below n, and is the largest of those with as many

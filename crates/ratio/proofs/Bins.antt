@@ -1,4 +1,4 @@
--- What `continual_metric` uses of its spans, and a bin's ratio from its sums.
+-- What `write_ratios` uses of its spectra, and a bin's ratio from its sums.
 -- Assumes nothing.
 use Prim.Native.Nat.{ℕ, zero, suc, _*_, _≤_, _<_}
 use mathlib.Core.List.{List}

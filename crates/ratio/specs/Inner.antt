@@ -2,11 +2,9 @@
 -- Definitions only.
 use mathlib.Core.List.{List}
 use mathlib.Core.Path.{_≡_}
-use Prim.Native.Nat.{ℕ, _<_}
 use lib.Ieee.{binary32, add}
 use Rattle.ieee.specs.Constants.{plusZero}
 use Rattle.complex.specs.Complex.{Pair, pair, of32, product, conjugate, plus}
-use Rattle.spectra.specs.Spectra.{spectraIn}
 use Rattle.ratio.specs.declared.BinSums.{BinSums}
 use Rattle.ratio.specs.Ratio.{squareOf, sizeOf, correlation, energy}
 
@@ -24,8 +22,3 @@ pub record Stepped (s : BinSums) (x y : Pair) (r : BinSums) : Type 0 where
 pub record Summed (xs : List Pair) (r : BinSums) : Type 0 where
   pub num : of32 (r .num) ≡ correlation xs
   pub den : r .den ≡ energy xs
-
--- n floats hold a spectrum of len pairs at least, and m is len
-pub record Spanned (len n m : ℕ) : Type 0 where
-  pub some : 0 < spectraIn len n
-  pub bins : m ≡ len

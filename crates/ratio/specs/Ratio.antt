@@ -4,13 +4,17 @@
 use Prim.Native.Nat.{ℕ}
 use mathlib.Core.Bool.{cond}
 use mathlib.Core.List.{List, [], _∷_, map}
+use mathlib.Core.Path.{_≡_}
+use lib.Dec.{eqb}
+use lib.ListN.{length}
 use lib.Ieee.{Float, binary32, div, lt}
 use Rattle.ieee.specs.Constants.{plusZero}
 use Rattle.ieee.specs.Sums.{total}
 use Rattle.lists.specs.Lists.{upTo}
+use Rattle.lists.specs.Refusals.{unless}
 use Rattle.complex.specs.Complex.{Pair, pair, product, conjugate, squaredSize, norm32}
 use Rattle.complex.specs.Totals.{totals}
-use Rattle.spectra.specs.Spectra.{binPairs}
+use Rattle.spectra.specs.Spectra.{binPairs, spectraCode}
 
 -- each pair after y, times the conjugate of the one before it
 unfoldable pub stepsFrom : Pair → List Pair → List Pair
@@ -44,3 +48,15 @@ ratioOf xs = guarded (norm32 (correlation xs)) (energy xs)
 -- the ratio of every bin of spectra of len pairs
 unfoldable pub ratios : ℕ → List Float → List Float
 ratios len xs = upTo (λ b. ratioOf (binPairs len xs b)) len
+
+-- ---- the operation, with later tests behind: 5 unless whole spectra of len pairs, at most 1,024; 6 if none; 7 unless len ratios
+abbrev pub metricCode : ℕ → ℕ → ℕ → ℕ → ℕ
+metricCode len floats ratios later = spectraCode len floats (unless (eqb ratios len) 7 later)
+
+-- the lent ratios at exit
+unfoldable pub metricLeaves : ℕ → List Float → List Float → List Float
+metricLeaves len xs old = cond (eqb (metricCode len (length xs) (length old) 0) 0) (ratios len xs) old
+
+pub record MetricTaken (len : ℕ) (xs old : List Float) (r : ℕ) (now : List Float) : Type 0 where
+  pub code : r ≡ metricCode len (length xs) (length old) 0
+  pub leaves : now ≡ metricLeaves len xs old

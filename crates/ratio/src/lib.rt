@@ -5,8 +5,9 @@ ghost use Prim.Native.Nat.{_*_, _<_, _≤_};
 ghost use lib.ListN.{length};
 ghost use Rattle.complex.specs.Complex.{of32, norm32};
 ghost use Rattle.spectra.specs.Spectra.{column};
-ghost use Rattle.ratio.specs.Ratio.{guarded, ratios};
-ghost use Rattle.ratio.specs.Inner.{Started, Stepped, Summed, Spanned};
+ghost use Rattle.ratio.specs.Ratio.{guarded, ratios, metricCode, MetricTaken};
+ghost use Rattle.ratio.specs.Accepted.{Accepted};
+ghost use Rattle.ratio.specs.Inner.{Started, Stepped, Summed};
 use complex::C32;
 
 // The sums of a bin: of the squares of its products, and of their squared sizes.
@@ -68,9 +69,24 @@ fn bin_sums(spectra: &[f32], len: usize, count: usize, bin: usize) -> BinSums
     sums
 }
 
-// Every bin's ratio, of one or more spectra of `len` pairs; `out` has `len` entries.
-pub fn continual_metric(spectra: &[f32], len: usize, out: &mut [f32])
-    requires { ⌜ Spanned len (length (now spectra)) (length (now out)) ⌝ }
+// What refuses `floats` floats as spectra of `len` pairs with `ratios` ratios lent for them, or 0: 5
+// unless whole spectra, at most 1,024, 6 if none, 7 unless `len` ratios.
+pub fn refusal(len: usize, floats: usize, ratios: usize) -> u8
+    ensures { λ r. ⌜ r ≡ metricCode len floats ratios 0 ⌝ }
+{
+    let code = spectra::refusal(len, floats);
+    if code != 0 {
+        return code;
+    }
+    if ratios != len {
+        return 7;
+    }
+    0
+}
+
+// The ratios of an accepted call.
+fn write_ratios(spectra: &[f32], len: usize, out: &mut [f32])
+    requires { ⌜ Accepted len (length (now spectra)) (length (now out)) 0 ⌝ }
     ensures { λ _. ⌜ now (out .exit) ≡ ratios len (now (spectra .entry)) ⌝ }
 {
     let count = spectra.len() / (2 * len);
@@ -79,4 +95,18 @@ pub fn continual_metric(spectra: &[f32], len: usize, out: &mut [f32])
         out[b] = bin_sums(spectra, len, count, b).ratio();
         b += 1;
     }
+}
+
+// Every bin's ratio, of spectra of `len` pairs, written to `out`.
+//
+// Refused by 5 unless whole spectra, at most 1,024, 6 if none, 7 unless `len` ratios.
+pub fn continual_metric(spectra: &[f32], len: usize, out: &mut [f32]) -> u8
+    ensures { λ r. ⌜ MetricTaken len (now (spectra .entry)) (now (out .entry)) r (now (out .exit)) ⌝ }
+{
+    let code = refusal(len, spectra.len(), out.len());
+    if code != 0 {
+        return code;
+    }
+    write_ratios(spectra, len, out);
+    0
 }

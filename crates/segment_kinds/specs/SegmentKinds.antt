@@ -12,7 +12,6 @@ use lib.Ieee.{Float, nan, binary32, lt, div, ofInt}
 use Rattle.ieee.specs.Constants.{plusZero, minusZero, half32}
 use Rattle.ieee.specs.Sums.{total}
 use Rattle.lists.specs.Lists.{upTo, select}
-use Rattle.lists.specs.Refusals.{unless}
 use Rattle.lists.specs.Tests.{memb}
 use Rattle.params.specs.declared.Mode.{Mode}
 use Rattle.params.specs.declared.ModeNumber.{ModeNumber}
@@ -21,8 +20,7 @@ use Rattle.params.specs.declared.SegmentKind.the-variants.{Coherent, Differenti
 use Rattle.params.specs.Params.{carriersPerSegment, totalCarriers}
 use Rattle.tables.specs.Places.{tmccOf, ac1Of, ac2Of}
 use Rattle.ofdm.specs.Band.{placeOf}
-use Rattle.spectra.specs.Spectra.{spectraCode}
-use Rattle.ratio.specs.Ratio.{ratios}
+use Rattle.ratio.specs.Ratio.{ratios, metricCode, metricLeaves}
 use Rattle.segment_kinds.specs.declared.DetectedKinds.{DetectedKinds}
 
 -- ---- a segment's score
@@ -56,12 +54,12 @@ detectedKinds mode ratios = map kindOfScore (kindScores mode ratios)
 -- ---- the operation: 1; 5 unless whole spectra, at most 1,024; 6 if none; 7 unless k_total ratios
 unfoldable pub kindsCode : ModeNumber → ℕ → ℕ → ℕ
 kindsCode Unknown floats ratios = 1
-kindsCode (Known m) floats ratios = spectraCode (totalCarriers m) floats (unless (eqb ratios (totalCarriers m)) 7 0)
+kindsCode (Known m) floats ratios = metricCode (totalCarriers m) floats ratios 0
 
 -- the lent ratios at exit
 unfoldable pub kindsLeaves : ModeNumber → List Float → List Float → List Float
 kindsLeaves Unknown xs old = old
-kindsLeaves (Known m) xs old = cond (eqb (kindsCode (Known m) (length xs) (length old)) 0) (ratios (totalCarriers m) xs) old
+kindsLeaves (Known m) xs old = metricLeaves (totalCarriers m) xs old
 
 -- where the call is refused, kinds and scores are zeros
 unfoldable pub kindsAnswer : ModeNumber → List Float → ℕ → List ℕ

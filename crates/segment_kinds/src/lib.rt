@@ -171,14 +171,9 @@ pub fn detect_kinds(mode: u8, spectra: &[f32], ratios: &mut [f32]) -> DetectedKi
     let ModeNumber::Known(m) = Mode::from_number(mode) else {
         return refused(1);
     };
-    let k = m.total_carriers();
-    let code = spectra::refusal(k, spectra.len());
+    let code = ratio::continual_metric(spectra, m.total_carriers(), ratios);
     if code != 0 {
         return refused(code);
     }
-    if ratios.len() != k {
-        return refused(7);
-    }
-    ratio::continual_metric(spectra, k, ratios);
     detected(m, ratios)
 }

@@ -9,13 +9,13 @@ use lib.IntN.{ℤ, pos}
 use lib.ListN.{length, take}
 use lib.Ieee.{Float, binary32, minus, div, ofInt}
 use lib.Seq.{sets-eq, length-sets, take-at}
-use Rattle.lists.specs.Select.{length-upTo}
 use Rattle.params.specs.declared.Mode.{Mode}
 use Rattle.params.specs.declared.ModeNumber.{ModeNumber}
 use Rattle.params.specs.declared.ModeNumber.the-variants.{Known, Unknown}
 use Rattle.params.specs.Params.{fftSize}
 use Rattle.params.specs.Laws.{sized}
-use Rattle.ratio.specs.Ratio.{ratios}
+use Rattle.ratio.specs.Ratio.{ratios, metricCode, MetricTaken}
+use Rattle.ratio.specs.Accepted.{ratios-length, left-written}
 use Rattle.shift.specs.declared.Best.{Best}
 use Rattle.shift.specs.declared.ShiftAnswer.the-variants.{Shift, Refused}
 use Rattle.shift.specs.Shift.{pattern, scoreOf, winner, bestShift, shiftCode, shiftLeaves, shiftAnswer, Shifted}
@@ -43,10 +43,6 @@ module _ (m : Mode) (old out : List ℕ) (r : ℕ) (p : Put (pattern m) old 0 r 
   front-length = counts ∙ sym (ap length front-is)
 
 -- ---- the sizes
-ratios-length : (n : ℕ) (xs now : List Float) → now ≡ ratios n xs → length now ≡ n
-unfolding ratios
-ratios-length n xs now e = rw e (length-upTo _ n)
-
 pub mode-bins : (m : Mode) (n : ℕ) → n ≡ fftSize m → (0 < n) × (n ≤ 8192)
 mode-bins m n e = omega (arith, sized m .band, sized m .within, sized m .fft-high)
 
@@ -55,15 +51,19 @@ shift-small m n at bound size h i = omega (arith, mode-bins m n size)
 
 pub searchable : (m : Mode) (xs now : List Float) (n bound : ℕ) → n ≡ fftSize m → now ≡ ratios n xs → bound ≤ n / 2 → Bounded (length now) bound
 searchable m xs now n bound size left h =
-    let all = ratios-length n xs now left in
+    let all : length now ≡ n = rw left (ratios-length n xs) in
     let bins = mode-bins m n size in
     record { some = omega arith; few = omega arith; within = omega arith }
+
+-- ---- `continual_metric` refuses nothing that was let pass by its own number
+pub written : (n : ℕ) (xs old now : List Float) (code r : ℕ) → code ≡ metricCode n (length xs) (length old) 0 → code ≡ 0 → MetricTaken n xs old r now → now ≡ ratios n xs
+written n xs old now code r told z taken = left-written n xs old now r taken (taken .code ∙ sym told ∙ z)
 
 -- ---- the search's winner is the definition's
 best-is : (m : Mode) (xs now : List Float) (bins : List ℕ) (n bound : ℕ) (best : Best) → n ≡ fftSize m → now ≡ ratios n xs → bins ≡ pattern m
     → Found bins now bound best → winner (minus (best .at) bound) (best .sum) ≡ bestShift m bound (ratios (fftSize m) xs)
 unfolding bestShift
-best-is m xs now bins n bound best size left are found = found .wins ∙ (rw (ratios-length n xs now left, left, size, are))
+best-is m xs now bins n bound best size left are found = found .wins ∙ rw (left, ratios-length n xs, size, are)
 
 -- ---- the returns: `read` is what the mode's number was read as
 module _ (number read : ModeNumber) (told : read ≡ number) (xs old : List Float) (bound : ℕ) where

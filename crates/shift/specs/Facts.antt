@@ -1,6 +1,7 @@
--- What the search for the shift ends with. No shift of the range has a greater sum than the winner. Equal sums keep the most negative: where the
--- winner's sum is above `f32::MIN`, from which the search starts, it is at or below the sum of no more negative shift, so that such a sum is less
--- or a NaN. Where every sum is a NaN the answer stays where the search starts, at shift 0 and `f32::MIN`.
+-- What the search for the shift ends with. No shift of the range has a greater sum than the winner. Equal sums keep the most negative: of two
+-- shifts whose sums over the ratios of spectra are equal numbers, the less negative never wins. Whatever the ratios, a winner whose sum is above
+-- `f32::MIN`, from which the search starts, is at or below the sum of no more negative shift, so that such a sum is less or a NaN. Where every
+-- sum is a NaN the answer stays where the search starts, at shift 0 and `f32::MIN`.
 -- This is of sums. Scores are sums divided, and may tie where sums do not: in mode 1 the sums 14 + 2^-20 and 14 + 2^-19 both give the score
 -- 0x3f04bda2, and the greater sum wins.
 -- The pattern has 27, 53 and 105 bins in modes 1, 2 and 3.
@@ -8,18 +9,23 @@
 use Prim.Native.Nat.{ℕ, _+_, _*_, _<_}
 use mathlib.Core.Bool.{true, false}
 use mathlib.Core.List.{List}
-use mathlib.Core.Path.{_≡_, refl}
+use mathlib.Core.Logic.{inl, inr}
+use mathlib.Core.Path.{_≡_, refl, sym, ap, _∙_, subst}
+use native.Mathlib.Omega.{arith}
 use lib.Dec.{T}
-use lib.IntN.{pos}
+use lib.IntN.{ℤ, pos}
 use lib.Ieee.{Float, minus, lt, le, isNan}
 use lib.ListN.{length}
 use Rattle.ieee.specs.Constants.{lowest}
 use Rattle.ieee.specs.Numbers.{same-bool}
+use Rattle.ieee.specs.Order.{le-self}
 use Rattle.params.specs.declared.Mode.{Mode}
 use Rattle.params.specs.declared.Mode.the-variants.{M1, M2, M3}
 use Rattle.params.specs.Params.{fftSize}
+use Rattle.ratio.specs.Ratio.{ratios}
 use Rattle.shift.specs.Shift.{winner, sumAt, bestShift, patternCarriers, pattern}
-use Rattle.shift.specs.Searches.{found-most, found-first, found-nan}
+use Rattle.shift.specs.Searches.{found-kind, found-most, found-first, found-nan}
+use Rattle.shift.specs.Moved.{ratios-no-minus, sum-above}
 
 -- ---- the winner. Shift number j is j - bound, so the smaller of two numbers is the more negative shift.
 -- no shift of the range has a greater sum than the winner
@@ -35,6 +41,23 @@ pub most-negative : (mode : Mode) (bound : ℕ) (ratios : List Float) (i j : ℕ
 unfolding bestShift
 most-negative mode bound ratios i j l e g =
     same-bool _ false (found-first (sumAt (fftSize mode) (pattern mode) ratios) bound i j l e g) (λ t. absurd t)
+
+-- so of two shifts of spectra with equal sums, and no NaN, the less negative never wins
+pub equal-sums : (mode : Mode) (bound : ℕ) (xs : List Float) (i j : ℕ) → i < j → j < 2 * bound + 1
+    → let sum : ℤ → Float = sumAt (fftSize mode) (pattern mode) (ratios (fftSize mode) xs) in
+    sum (minus i bound) ≡ sum (minus j bound) → isNan (sum (minus i bound)) ≡ false
+    → bestShift mode bound (ratios (fftSize mode) xs) .shift ≡ minus j bound → ⊥
+unfolding bestShift
+equal-sums mode bound xs i j l h same number won =
+    let sum : ℤ → Float = sumAt (fftSize mode) (pattern mode) (ratios (fftSize mode) xs) in
+    elim (found-kind sum bound) [
+      | inl start ↦
+          found-most sum bound i (omega arith)
+          (subst (λ w. T (lt (w .sum) (sum (minus i bound)))) (sym start) (sum-above mode _ (minus i bound) (ratios-no-minus (fftSize mode) xs) number))
+      | inr p ↦
+          let own : sum (minus i bound) ≡ bestShift mode bound (ratios (fftSize mode) xs) .sum = same ∙ sym (p .1 ∙ ap sum won) in
+          found-first sum bound i j l won (p .0) (subst (λ x. T (le x (sum (minus i bound)))) own (le-self _ number))
+    ]
 
 -- with every sum a NaN the answer stays where the search starts: shift 0 and `f32::MIN`
 pub all-nan : (mode : Mode) (bound : ℕ) (ratios : List Float)

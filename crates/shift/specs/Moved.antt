@@ -11,10 +11,10 @@ use native.Mathlib.Omega.{arith}
 use lib.Dec.{T, ltb, ltb→lt, nltb→le}
 use lib.IntN.{ℤ, pos, negsuc, natAbs, negℤ, subℕ, _+ℤ_, _-ℤ_, +ℤ-idr, -ℤ-+ℤ-cancel, pos-ne-negsuc}
 use lib.ListN.{getD, length}
-use lib.Ieee.{Float, nan, binary32, lt, add, ofInt}
+use lib.Ieee.{Float, nan, binary32, lt, isNan, add, ofInt}
 use lib.Ieee.Positive.{positive}
 use Rattle.ieee.specs.Constants.{minusZero, lowest, minus-zero-is, lowest-is}
-use Rattle.ieee.specs.Order.{quotient-beats, lowest-loses}
+use Rattle.ieee.specs.Order.{quotient-beats, greater-number, lowest-loses}
 use Rattle.ieee.specs.Signs.{negative, zero-plus-sign}
 use Rattle.ieee.specs.Sums.{total, total-sign}
 use Rattle.params.specs.declared.Mode.{Mode}
@@ -83,21 +83,21 @@ sum-beats : (mode : Mode) (old : List Float) (y z : ℤ) → T (lt (scoreAt mode
 unfolding scoreOf
 sum-beats mode old y z h = quotient-beats binary32 _ _ (ofInt binary32 (pos (length (pattern mode)))) (length-positive mode) h
 
--- `f32::MIN` loses to a total from -0.0 of values without a minus sign, if that beats anything
-total-above : {A : Type 0} (x : Float) (g : A → Float) (bs : List A) → ((b : A) → negative (g b) ≡ false)
-    → T (lt x (total binary32 minusZero (map g bs))) → T (lt lowest (total binary32 minusZero (map g bs)))
+-- `f32::MIN` loses to a total from -0.0 of values without a minus sign, unless that is a NaN
+total-above : {A : Type 0} (g : A → Float) (bs : List A) → ((b : A) → negative (g b) ≡ false)
+    → isNan (total binary32 minusZero (map g bs)) ≡ false → T (lt lowest (total binary32 minusZero (map g bs)))
 unfolding total lt
-total-above x g [] p h = rw (minus-zero-is, lowest-is) tt
-total-above x g (b ∷ bs) p h =
-    lowest-loses x (total binary32 (add binary32 minusZero (g b)) (map g bs)) h
+total-above g [] p h = rw (minus-zero-is, lowest-is) tt
+total-above g (b ∷ bs) p h =
+    lowest-loses (total binary32 (add binary32 minusZero (g b)) (map g bs)) h
     (total-sign binary32 _ g bs (rw minus-zero-is (zero-plus-sign binary32 true (pos 0) (g b) (p b))) p)
 
-sum-above : (mode : Mode) (old : List Float) (x : Float) (z : ℤ) → NoMinus (fftSize mode) old → T (lt x (sumAt (fftSize mode) (pattern mode) old z))
+pub sum-above : (mode : Mode) (old : List Float) (z : ℤ) → NoMinus (fftSize mode) old → isNan (sumAt (fftSize mode) (pattern mode) old z) ≡ false
     → T (lt lowest (sumAt (fftSize mode) (pattern mode) old z))
 unfolding sumAt
-sum-above mode old x z g h =
+sum-above mode old z g h =
     let n = fftSize mode in
-    total-above x (λ b. getD old (movedBin n b z) nan) (pattern mode) (λ b. g (movedBin n b z) (moved-below n b z (some-bins mode))) h
+    total-above (λ b. getD old (movedBin n b z) nan) (pattern mode) (λ b. g (movedBin n b z) (moved-below n b z (some-bins mode))) h
 
 -- ---- shifts
 -- there is another shift than z, at most one away from 0
@@ -160,7 +160,7 @@ module _ (mode : Mode) (bound : ℕ) (s : ℤ) (old new : List Float) (g : NoMin
     greater y i e = sum-beats mode old y oldShift (beats y i e)
 
     above-lowest : T (lt lowest (before oldShift))
-    above-lowest = sum-above mode old (before (other oldShift)) oldShift g (greater (other oldShift) (omega (arith, other-near oldShift)) (other-is-not oldShift))
+    above-lowest = sum-above mode old oldShift g (greater-number _ _ (greater (other oldShift) (omega (arith, other-near oldShift)) (other-is-not oldShift)))
 
     -- the winner's sum is the sum at its shift
     won-before : bestShift mode bound old .sum ≡ before oldShift

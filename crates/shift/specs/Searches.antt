@@ -4,6 +4,7 @@
 use Prim.Native.Nat.{ℕ, zero, suc, _+_, _-_, _*_, _≤_, _<_}
 use mathlib.Core.Bool.{Bool, true, false, not, cond, false≢true}
 use mathlib.Core.List.{List, [], _∷_, _++_, map, map-append}
+use mathlib.Core.Logic.{_⊎_, inl, inr}
 use mathlib.Core.Path.{_≡_, refl, sym, ap, _∙_, subst}
 use native.Mathlib.Decide.{decLt}
 use native.Mathlib.Omega.{arith}
@@ -107,6 +108,18 @@ module _ (f : ℤ → Float) (w : Winner) (at : ℕ → ℤ) where
       won-step n (λ x. i < number (x .shift) → T (lt (w .sum) (x .sum)) → T (le (x .sum) (f (at i))) → ⊥)
       (λ t l g k. won-most n i (rw (e n) at l) (lt-le-trans (won n .sum) (f (at n)) (f (at i)) t k)) (λ _. won-first number e n i)
 
+  -- the winner is the start, or has the sum at its own shift, which is above the start
+  won-kind : (n : ℕ) → (won n ≡ w) ⊎ (T (lt (w .sum) (won n .sum)) × (won n .sum ≡ f (won n .shift)))
+  unfolding searched
+  won-kind zero = inl refl
+  won-kind (suc n) =
+      won-step n (λ x. (x ≡ w) ⊎ (T (lt (w .sum) (x .sum)) × (x .sum ≡ f (x .shift))))
+      (λ t. elim (won-kind n) [
+        | inl e ↦ inr (subst (λ v. T (lt (v .sum) (f (at n)))) e t, refl)
+        | inr p ↦ inr (lt-trans (w .sum) (won n .sum) (f (at n)) (p .0) t, refl)
+      ])
+      (λ _. won-kind n)
+
   -- sums that are all NaN leave the start
   won-nan : (n : ℕ) → ((j : ℕ) → j < n → isNan (f (at j)) ≡ true) → won n ≡ w
   unfolding searched
@@ -175,3 +188,7 @@ module _ (f : ℤ → Float) (bound : ℕ) where
   pub found-nan : ((j : ℕ) → j < 2 * bound + 1 → isNan (f (minus j bound)) ≡ true) → found ≡ winner (pos 0) lowest
   unfolding shifts
   found-nan = won-nan f (winner (pos 0) lowest) (λ j. minus j bound) (2 * bound + 1)
+
+  pub found-kind : (found ≡ winner (pos 0) lowest) ⊎ (T (lt lowest (found .sum)) × (found .sum ≡ f (found .shift)))
+  unfolding shifts
+  found-kind = won-kind f (winner (pos 0) lowest) (λ j. minus j bound) (2 * bound + 1)

@@ -20,8 +20,7 @@ use Rattle.params.specs.declared.SegmentKind.the-variants.{Coherent}
 use Rattle.params.specs.Params.{fftSize, carriersPerSegment, totalCarriers}
 use Rattle.tables.specs.Places.{ac1Of}
 use Rattle.ofdm.specs.Band.{placeOf, binOf}
-use Rattle.spectra.specs.Spectra.{spectraCode}
-use Rattle.ratio.specs.Ratio.{ratios}
+use Rattle.ratio.specs.Ratio.{ratios, metricCode}
 use Rattle.shift.specs.declared.ShiftAnswer.{ShiftAnswer}
 use Rattle.shift.specs.declared.ShiftAnswer.the-variants.{Shift, Refused}
 
@@ -68,7 +67,7 @@ bestShift mode bound ratios = searched (sumAt (fftSize mode) (pattern mode) rati
 -- ---- the operation: 1; 5 unless whole spectra, at most 1,024; 6 if none; 7 unless n ratios; 8 for a bound above n/2
 unfoldable pub shiftCode : ModeNumber → ℕ → ℕ → ℕ → ℕ
 shiftCode Unknown floats ratios bound = 1
-shiftCode (Known m) floats ratios bound = spectraCode (fftSize m) floats (unless (eqb ratios (fftSize m)) 7 (unless (leb bound (fftSize m / 2)) 8 0))
+shiftCode (Known m) floats ratios bound = metricCode (fftSize m) floats ratios (unless (leb bound (fftSize m / 2)) 8 0)
 
 -- the lent ratios at exit
 unfoldable pub shiftLeaves : ModeNumber → List Float → ℕ → List Float → List Float

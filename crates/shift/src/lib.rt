@@ -117,12 +117,9 @@ pub fn integer_cfo(mode: u8, spectra: &[f32], bound: usize, ratios: &mut [f32]) 
         return ShiftAnswer::Refused(1);
     };
     let n = m.fft_size();
-    let code = spectra::refusal(n, spectra.len());
+    let code = ratio::refusal(n, spectra.len(), ratios.len());
     if code != 0 {
         return ShiftAnswer::Refused(code);
-    }
-    if ratios.len() != n {
-        return ShiftAnswer::Refused(7);
     }
     if bound > n / 2 {
         return ShiftAnswer::Refused(8);

@@ -1,23 +1,17 @@
 -- What the refusal of spectra decides: the tests behind it count only where it is 0, and then the floats are whole spectra, 1 to 1,024 of them.
 -- Assumes nothing.
 use Prim.Native.Nat.{ℕ, zero, suc, _+_, _*_, _%_, _≤_, _<_}
-use mathlib.Core.Bool.{Bool, true, false, cond}
-use mathlib.Core.Path.{_≡_, refl}
+use mathlib.Core.Path.{_≡_}
 use native.Mathlib.Nat.{zero-mul, zero-lt-suc, div-add-mod'}
 use native.Mathlib.Omega.{arith}
 use borrow.Author.Tests.{eqb-true, leb-true, ltb-true}
 use lib.Dec.{eqb, leb, ltb, lit<}
-use Rattle.lists.specs.Refusals.{unless, passed}
+use Rattle.lists.specs.Refusals.{unless, passed, InFront, one-in-front, both-in-front}
 use Rattle.lists.specs.Tests.{both-left, both-right}
 use Rattle.spectra.specs.Spectra.{spectraIn, areSpectra, spectraCode}
 
-pub later-counts : (len n later : ℕ) → spectraCode len n later ≡ cond (eqb (spectraCode len n 0) 0) later (spectraCode len n 0)
-later-counts len n later = by (areSpectra len n) (ltb 0 n)
-  where
-    by : (a b : Bool) → unless a 5 (unless b 6 later) ≡ cond (eqb (unless a 5 (unless b 6 0)) 0) later (unless a 5 (unless b 6 0))
-    by true true = refl
-    by true false = refl
-    by false b = refl
+pub later-counts : (len n : ℕ) → InFront (spectraCode len n)
+later-counts len n = both-in-front (unless (areSpectra len n) 5) (unless (ltb 0 n) 6) (one-in-front (areSpectra len n) 5 (lit< tt)) (one-in-front (ltb 0 n) 6 (lit< tt))
 
 pub record Accepted (len n later : ℕ) : Type 0 where
   pub whole : n % (2 * len) ≡ 0

@@ -32,18 +32,23 @@ pub fn put_pair(xs: &mut [f32], k: usize, v: C32)
 
 // 5 unless n floats are whole spectra of len pairs, at most 1,024; 6 if none; else 0.
 pub fn refusal(len: usize, n: usize) -> u8
-    requires { ⌜ (0 < len) × (len < 65536) ⌝ }
     ensures { λ r. ⌜ r ≡ spectraCode len n 0 ⌝ }
 {
+    if n == 0 {
+        return 6;
+    }
+    if len == 0 {
+        return 5;
+    }
+    if n / 2 < len {
+        return 5;
+    }
     let w = 2 * len;
     if n % w != 0 {
         return 5;
     }
     if n / w > 1024 {
         return 5;
-    }
-    if n == 0 {
-        return 6;
     }
     0
 }

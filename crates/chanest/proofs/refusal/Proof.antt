@@ -14,9 +14,7 @@ returns : tie.Need-returns
 returns c = by-phase _ _ _ _ _ _ (c .if1 .taken)
 
 refusal-requires : tie.Need-refusal-requires
-refusal-requires c κs =
-    let m = c .before .before .args .mode in
-    (omega (arith, sized m .band), omega (arith, sized m .band-high))
+refusal-requires c κs = search needs
 
 returns-2 : tie.Need-returns-2
 returns-2 c =

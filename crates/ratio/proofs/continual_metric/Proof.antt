@@ -1,89 +1,38 @@
--- `ratio::continual_metric` meets its contract: the output is filled from the front with the ratios of the bins.
+-- `ratio::continual_metric` meets its contract: a refusal leaves the list as it was, and after it the ratios are written.
 -- Assumes nothing.
-use Prim.Native.Nat.{_-_, _≤_}
-use mathlib.Core.List.{_++_}
-use mathlib.Core.Path.{_≡_, refl, _∙_, sym}
-use lib.ListN.{length, drop, length-set}
-use Rattle.lists.specs.Lists.{upTo}
-use Rattle.lists.specs.Fill.{fill-again, fill-done}
-use Rattle.spectra.specs.Spectra.{binPairs}
-use Rattle.ratio.specs.Ratio.{ratioOf, ratios}
-use Rattle.ratio.proofs.Bins.{some-bins, one-spectrum, held, ratio-of}
+use mathlib.Core.Path.{sym, _∙_}
+use borrow.Author.Tests.{eq-eqb, ne-eqb}
 use borrow.Author.Needs.{needs}
-use native.Mathlib.Omega.{arith}
+use Rattle.ratio.specs.Ratio.{metricLeaves}
+use Rattle.ratio.specs.Accepted.{accepted}
 use Rattle.ratio.proofs.continual_metric.Statement.{statement}
 use Rattle.ratio.proofs.continual_metric.Tie as tie
 
-abbrev Inv-loop : tie.InvT-loop
-Inv-loop spectra len out₀ count b₀ out b =
-    (b ≤ len) × (length out ≡ len) × (out ≡ upTo (λ k. ratioOf (binPairs len spectra k)) b ++ drop b out₀)
+refusal-requires : tie.Need-refusal-requires
+refusal-requires c κs = search needs
 
-abbrev μ-loop : tie.MeasureT-loop
-μ-loop spectra len out₀ count b₀ out b = len - b
-
-mul-count : tie.Need-mul-count Inv-loop μ-loop
-mul-count c = omega (arith, one-spectrum _ _ (c .before .before .pre .some))
-
-div-count : tie.Need-div-count Inv-loop μ-loop
-div-count c = omega (arith, some-bins _ _ (c .before .before .pre .some))
-
-loop-holds : tie.Need-loop-holds Inv-loop μ-loop
-loop-holds c = (search needs, c .before .before .pre .bins, refl)
-
-bin-sums-requires : tie.Need-bin-sums-requires Inv-loop μ-loop
-bin-sums-requires c κs =
-    let s = c .before .before .before .before in
-    (c .loop-test .taken, s .pre .some, held (s .args .len) _)
-
-ratio-requires : tie.Need-ratio-requires Inv-loop μ-loop
-ratio-requires c κs = search needs
-
-mul-out : tie.Need-mul-out Inv-loop μ-loop
-mul-out c = omega arith
-
-slice-write-out : tie.Need-slice-write-out Inv-loop μ-loop
-slice-write-out c = omega arith
-
-add-b : tie.Need-add-b Inv-loop μ-loop
-add-b c = search needs
-
-loop-less : tie.Need-loop-less Inv-loop μ-loop
-loop-less c = omega arith
-
-loop-again : tie.Need-loop-again Inv-loop μ-loop
-loop-again c =
-    let l = c .before .before .before in
-    let s = l .before .before .before in (
-      omega arith,
-      simp length-set (l .loop .inv .1),
-      fill-again _ (s .args .out .now) _ _ _ (l .loop .inv .2) (ratio-of _ _ _ (c .ratio .ensures) (c .before .bin-sums .ensures)) (omega (arith, s .pre .bins)),
-    )
-
-same-length : tie.Need-same-length Inv-loop μ-loop
-same-length c = c .before .loop .inv .1 ∙ sym (c .before .before .before .before .pre .bins)
-
-returns : tie.Need-returns Inv-loop μ-loop
-unfolding ratios
+returns : tie.Need-returns
+unfolding metricLeaves
 returns c =
-    let l = c .before in
-    let s = l .before .before .before in
-    fill-done _ (s .args .out .now) _ (s .args .len) (l .loop .b) (l .loop .inv .2) (omega (arith, s .pre .bins)) (omega arith)
+    let code = c .before .refusal .ensures in
+    record { code = code; leaves = rw (← code, ne-eqb _ 0 (c .if1 .taken)) }
+
+write-ratios-requires : tie.Need-write-ratios-requires
+write-ratios-requires c κs =
+    let s = c .before .before .before .before .before .args in
+    accepted (s .len) _ _ 0 (sym (c .before .before .refusal .ensures) ∙ c .before .if1 .left)
+
+same-length : tie.Need-same-length
+same-length c = search needs
+
+returns-2 : tie.Need-returns-2
+unfolding metricLeaves
+returns-2 c =
+    let w = c .before .before in
+    let t = w .before .before in
+    let code = t .before .refusal .ensures in
+    record { code = sym (t .if1 .left) ∙ code; leaves = rw (← code, eq-eqb _ 0 (t .if1 .left)) (w .write-ratios .ensures) }
 
 pub continual-metric-spec : {M : Type 1} → statement M
 continual-metric-spec =
-    tie.close
-    (tie.spec
-    Inv-loop
-    μ-loop
-    mul-count
-    div-count
-    loop-holds
-    bin-sums-requires
-    ratio-requires
-    mul-out
-    slice-write-out
-    add-b
-    loop-less
-    loop-again
-    same-length
-    returns)
+    tie.close (tie.spec refusal-requires returns write-ratios-requires same-length returns-2)

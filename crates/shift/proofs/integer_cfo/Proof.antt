@@ -2,10 +2,9 @@
 -- Assumes nothing.
 use mathlib.Core.Path.{sym, _∙_}
 use lib.IntN.{pos}
-use Rattle.spectra.specs.Accepted.{accepted}
 use Rattle.ieee.specs.Differences.{held-exactly, difference-fits, difference-is}
-use Rattle.shift.proofs.Codes.{by-spectra, by-length, by-bound, by-none}
-use Rattle.shift.proofs.Answers.{front-few, front-fits, front-is, front-length, mode-bins, shift-small, searchable, bad-mode, refused, answered}
+use Rattle.shift.proofs.Codes.{by-spectra, by-bound, by-none}
+use Rattle.shift.proofs.Answers.{front-few, front-fits, front-is, front-length, shift-small, written, searchable, bad-mode, refused, answered}
 use borrow.Author.Needs.{needs}
 use native.Mathlib.Omega.{arith}
 use Rattle.shift.proofs.integer_cfo.Statement.{statement}
@@ -27,7 +26,7 @@ fft-size-requires : tie.Need-fft-size-requires
 fft-size-requires c κs = search needs
 
 refusal-requires : tie.Need-refusal-requires
-refusal-requires c κs = omega (arith, mode-bins (c .before .before .m .given .0 .0) _ (c .fft-size .ensures))
+refusal-requires c κs = search needs
 
 returns-2 : tie.Need-returns-2
 returns-2 c =
@@ -40,20 +39,11 @@ returns-3 : tie.Need-returns-3
 returns-3 c =
     let r = c .before .before in
     let f = r .before in
-    let code = by-length _ _ _ _ _ _ (f .fft-size .ensures) (r .refusal .ensures) (c .before .if1 .left) (c .if2 .taken) in
-    refused _ _ (f .before .before .before .before .from-number .ensures) _ _ _ _ (f .before .before .m .given .1) _ code (λ e. omega arith)
-
-returns-4 : tie.Need-returns-4
-returns-4 c =
-    let r = c .before .before .before in
-    let f = r .before in
-    let code = by-bound _ _ _ _ _ _ (f .fft-size .ensures) (r .refusal .ensures) (c .before .before .if1 .left) (c .before .if2 .left) (c .if3 .taken) in
+    let code = by-bound _ _ _ _ _ _ (f .fft-size .ensures) (r .refusal .ensures) (c .before .if1 .left) (c .if2 .taken) in
     refused _ _ (f .before .before .before .before .from-number .ensures) _ _ _ _ (f .before .before .m .given .1) _ code (λ e. omega arith)
 
 continual-metric-requires : tie.Need-continual-metric-requires
-continual-metric-requires c κs =
-    let t = c .before .before in
-    record { some = accepted _ _ 0 (sym (t .before .before .refusal .ensures) ∙ t .before .if1 .left) .some; bins = t .if2 .left }
+continual-metric-requires c κs = search needs
 
 pattern-buffer-requires : tie.Need-pattern-buffer-requires
 pattern-buffer-requires c κs = search needs
@@ -73,11 +63,17 @@ slice-aggregate-search c = front-length _ _ _ _ (c .before .before .put-pattern 
 search-requires : tie.Need-search-requires
 search-requires c κs =
     let k = c .before .before .before .before .before .before .before .before in
-    let f = k .before .before .before .before .before .before in
-    searchable (f .before .before .m .given .0 .0) _ _ _ _ (f .fft-size .ensures) (k .continual-metric .ensures) (k .before .before .if3 .left)
+    let r = k .before .before .before .before in
+    let f = r .before in
+    let left = written _ _ _ _ _ _ (r .refusal .ensures) (k .before .before .before .if1 .left) (k .continual-metric .ensures) in
+    searchable (f .before .before .m .given .0 .0) _ _ _ _ (f .fft-size .ensures) left (k .before .before .if2 .left)
 
 cast-shift : tie.Need-cast-shift
-cast-shift c = search needs
+cast-shift c =
+    let k = c .before .before .before .before .before .before .before .before .before .before in
+    let f = k .before .before .before .before .before in
+    let small = shift-small (f .before .before .m .given .0 .0) _ _ _ (f .fft-size .ensures) (k .before .before .if2 .left) (c .before .search .ensures .inside) in
+    search needs
 
 cast-shift-2 : tie.Need-cast-shift-2
 cast-shift-2 c = search needs
@@ -85,30 +81,31 @@ cast-shift-2 c = search needs
 sub-shift : tie.Need-sub-shift
 sub-shift c =
     let k = c .before .before .before .before .before .before .before .before .before .before in
-    let f = k .before .before .before .before .before .before in
-    difference-fits _ _ (shift-small (f .before .before .m .given .0 .0) _ _ _ (f .fft-size .ensures) (k .before .before .if3 .left) (c .before .search .ensures .inside))
+    let f = k .before .before .before .before .before in
+    difference-fits _ _ (shift-small (f .before .before .m .given .0 .0) _ _ _ (f .fft-size .ensures) (k .before .before .if2 .left) (c .before .search .ensures .inside))
 
-int-to-float-t27 : tie.Need-int-to-float-t27
-int-to-float-t27 c =
+int-to-float-t28 : tie.Need-int-to-float-t28
+int-to-float-t28 c =
     let p = c .before .before .before .before .before .before in
     held-exactly (pos _) (omega (arith, front-few _ _ _ _ (p .put-pattern .ensures) (p .before .before .pattern-buffer .ensures)))
 
 same-length : tie.Need-same-length
 same-length c = search needs
 
-returns-5 : tie.Need-returns-5
-returns-5 c =
+returns-4 : tie.Need-returns-4
+returns-4 c =
     let e = c .before .before .before in
     let p = e .before .before .before .before in
     let k = p .before .before .before .before .before in
-    let r = k .before .before .before .before .before in
+    let r = k .before .before .before .before in
     let f = r .before in
     let bins = f .fft-size .ensures in
-    let bounded = k .before .before .if3 .left in
+    let passed = k .before .before .before .if1 .left in
+    let bounded = k .before .before .if2 .left in
     let size = p .before .before .pattern-buffer .ensures in
     answered _ _ (f .before .before .before .before .from-number .ensures) _ _ _ _ (f .before .before .m .given .1) _ _ _ _ _ _
-    (by-none _ _ _ _ _ _ bins (r .refusal .ensures) (k .before .before .before .before .if1 .left) (k .before .before .before .if2 .left) bounded)
-    bins (k .continual-metric .ensures)
+    (by-none _ _ _ _ _ _ bins (r .refusal .ensures) passed bounded)
+    bins (written _ _ _ _ _ _ (r .refusal .ensures) passed (k .continual-metric .ensures))
     (front-is _ _ _ _ (p .put-pattern .ensures) size) (front-length _ _ _ _ (p .put-pattern .ensures) size) (e .search .ensures)
     (difference-is _ _ (shift-small (f .before .before .m .given .0 .0) _ _ _ bins bounded (e .search .ensures .inside)))
 
@@ -124,7 +121,6 @@ integer-cfo-spec =
     refusal-requires
     returns-2
     returns-3
-    returns-4
     continual-metric-requires
     pattern-buffer-requires
     slice-aggregate-put-pattern
@@ -135,6 +131,6 @@ integer-cfo-spec =
     cast-shift
     cast-shift-2
     sub-shift
-    int-to-float-t27
+    int-to-float-t28
     same-length
-    returns-5)
+    returns-4)

@@ -1,0 +1,89 @@
+-- `ratio::write_ratios` meets its contract: the output is filled from the front with the ratios of the bins.
+-- Assumes nothing.
+use Prim.Native.Nat.{_-_, _≤_}
+use mathlib.Core.List.{_++_}
+use mathlib.Core.Path.{_≡_, refl, _∙_, sym}
+use lib.ListN.{length, drop, length-set}
+use Rattle.lists.specs.Lists.{upTo}
+use Rattle.lists.specs.Fill.{fill-again, fill-done}
+use Rattle.spectra.specs.Spectra.{binPairs}
+use Rattle.ratio.specs.Ratio.{ratioOf, ratios}
+use Rattle.ratio.proofs.Bins.{some-bins, one-spectrum, held, ratio-of}
+use borrow.Author.Needs.{needs}
+use native.Mathlib.Omega.{arith}
+use Rattle.ratio.proofs.write_ratios.Statement.{statement}
+use Rattle.ratio.proofs.write_ratios.Tie as tie
+
+abbrev Inv-loop : tie.InvT-loop
+Inv-loop spectra len out₀ count b₀ out b =
+    (b ≤ len) × (length out ≡ len) × (out ≡ upTo (λ k. ratioOf (binPairs len spectra k)) b ++ drop b out₀)
+
+abbrev μ-loop : tie.MeasureT-loop
+μ-loop spectra len out₀ count b₀ out b = len - b
+
+mul-count : tie.Need-mul-count Inv-loop μ-loop
+mul-count c = omega (arith, one-spectrum _ _ (c .before .before .pre .some))
+
+div-count : tie.Need-div-count Inv-loop μ-loop
+div-count c = omega (arith, some-bins _ _ (c .before .before .pre .some))
+
+loop-holds : tie.Need-loop-holds Inv-loop μ-loop
+loop-holds c = (search needs, c .before .before .pre .bins, refl)
+
+bin-sums-requires : tie.Need-bin-sums-requires Inv-loop μ-loop
+bin-sums-requires c κs =
+    let s = c .before .before .before .before in
+    (c .loop-test .taken, s .pre .some, held (s .args .len) _)
+
+ratio-requires : tie.Need-ratio-requires Inv-loop μ-loop
+ratio-requires c κs = search needs
+
+mul-out : tie.Need-mul-out Inv-loop μ-loop
+mul-out c = omega arith
+
+slice-write-out : tie.Need-slice-write-out Inv-loop μ-loop
+slice-write-out c = omega arith
+
+add-b : tie.Need-add-b Inv-loop μ-loop
+add-b c = search needs
+
+loop-less : tie.Need-loop-less Inv-loop μ-loop
+loop-less c = omega arith
+
+loop-again : tie.Need-loop-again Inv-loop μ-loop
+loop-again c =
+    let l = c .before .before .before in
+    let s = l .before .before .before in (
+      omega arith,
+      simp length-set (l .loop .inv .1),
+      fill-again _ (s .args .out .now) _ _ _ (l .loop .inv .2) (ratio-of _ _ _ (c .ratio .ensures) (c .before .bin-sums .ensures)) (omega (arith, s .pre .bins)),
+    )
+
+same-length : tie.Need-same-length Inv-loop μ-loop
+same-length c = c .before .loop .inv .1 ∙ sym (c .before .before .before .before .pre .bins)
+
+returns : tie.Need-returns Inv-loop μ-loop
+unfolding ratios
+returns c =
+    let l = c .before in
+    let s = l .before .before .before in
+    fill-done _ (s .args .out .now) _ (s .args .len) (l .loop .b) (l .loop .inv .2) (omega (arith, s .pre .bins)) (omega arith)
+
+pub write-ratios-spec : {M : Type 1} → statement M
+write-ratios-spec =
+    tie.close
+    (tie.spec
+    Inv-loop
+    μ-loop
+    mul-count
+    div-count
+    loop-holds
+    bin-sums-requires
+    ratio-requires
+    mul-out
+    slice-write-out
+    add-b
+    loop-less
+    loop-again
+    same-length
+    returns)
