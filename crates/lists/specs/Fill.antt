@@ -5,7 +5,7 @@ use mathlib.Core.Bool.{Bool, true, false}
 use mathlib.Core.List.{List, [], _∷_, _++_, append-assoc, append-nil, map}
 use mathlib.Core.Path.{_≡_, refl, sym, ap, _∙_}
 use native.Mathlib.Omega.{arith}
-use native.Mathlib.Nat.{zero-mul, suc-mul, add-suc, le-of-suc-le-suc, not-suc-le-zero}
+use native.Mathlib.Nat.{zero-mul, suc-mul, add-zero, add-suc, le-of-suc-le-suc, not-suc-le-zero}
 use native.Mathlib.Numerals.{add-one}
 use borrow.Rule.Slice.PartMut.{putMid}
 use lib.ListN.{length, getD, take, drop, set, drop-of-length-le}
@@ -26,6 +26,40 @@ fill-again f old out i v e q h = rw (e, q) (fill-step f old i h)
 pub fill-done : {A : Type 0} (f : ℕ → A) (old out : List A) (n i : ℕ) → out ≡ upTo f i ++ drop i old → length old ≤ i → i ≡ n → out ≡ upTo f n
 fill-done f old out n i e h q =
     e ∙ (ap (λ (l : List _). upTo f i ++ l) (drop-of-length-le old h) ∙ (append-nil (upTo f i) ∙ ap (upTo f) q))
+
+-- what was there behind the front may be read off `out` itself
+pub fill-own : {A : Type 0} (f : ℕ → A) (old out : List A) (i : ℕ) → out ≡ upTo f i ++ drop i old → out ≡ upTo f i ++ drop i out
+fill-own f old out i e =
+    let behind : drop i out ≡ drop i old = ap (drop i) e ∙ drop-at (upTo f i) (drop i old) i (length-upTo f i) in
+    e ∙ ap (λ (l : List _). upTo f i ++ l) (sym behind)
+
+-- `sets out n cs` is `out` with cs stored from n on
+pub sets-append : {A : Type 0} (xs ys l : List A) (i : ℕ) → sets (sets l i xs) (i + length xs) ys ≡ sets l i (xs ++ ys)
+sets-append [] ys l i = ap (λ (k : ℕ). sets l k ys) (omega arith)
+sets-append (x ∷ xs) ys l i = ap (λ (k : ℕ). sets (sets (set l i x) (suc i) xs) k ys) (omega arith) ∙ sets-append xs ys (set l i x) (suc i)
+
+-- values stored from an index on, one more
+stored-more : {A : Type 0} (f : ℕ → A) (old : List A) (at i : ℕ) → set (sets old at (upTo f i)) (at + i) (f i) ≡ sets old at (upTo f (suc i))
+stored-more f old at i =
+    let here : at + i ≡ at + length (upTo f i) = ap (λ (k : ℕ). at + k) (sym (length-upTo f i)) in
+    rw here (sets-append (upTo f i) (f i ∷ []) old at)
+
+pub store-again : {A : Type 0} (f : ℕ → A) (old out : List A) (at i : ℕ) (v : A) → out ≡ sets old at (upTo f i) → v ≡ f i
+    → set out (at + i) v ≡ sets old at (upTo f (i + 1))
+store-again f old out at i v e q = rw (e, q, add-one i) (stored-more f old at i)
+
+pub stored-all : {A : Type 0} (f : ℕ → A) (old out : List A) (at i n : ℕ) → out ≡ sets old at (upTo f i) → i ≡ n → out ≡ sets old at (upTo f n)
+stored-all f old out at i n e q = e ∙ ap (λ (k : ℕ). sets old at (upTo f k)) q
+
+-- n values stored behind those that fill the front
+pub fill-part : {A : Type 0} (f : ℕ → A) (old out : List A) (a n : ℕ) → out ≡ upTo f a ++ drop a old → a + n ≤ length old
+    → sets out a (upTo (λ i. f (a + i)) n) ≡ upTo f (a + n) ++ drop (a + n) old
+fill-part f old out a zero e h = rw (add-zero a) e
+fill-part f old out a (suc n) e h =
+    let next : a + n + 1 ≡ a + suc n = omega arith in
+    sym (stored-more (λ i. f (a + i)) out a n)
+    ∙ fill-again f old _ (a + n) (f (a + n)) (fill-part f old out a n e (omega arith)) refl (omega arith)
+    ∙ ap (λ (k : ℕ). upTo f k ++ drop k old) next
 
 -- part by part: a part written behind what is written already
 pub part-step : (front old out part : List ℕ) (a e : ℕ) → length front ≡ a → a ≤ e → out ≡ front ++ drop a old → putMid a (e - a) out part ≡ (front ++ part) ++ drop e old
@@ -88,11 +122,7 @@ module _ (f : ℕ → List ℕ) (n : ℕ) (size : (x : ℕ) → length (f x) ≡
       let last : drop (length xs * n) old ≡ getD old (length xs * n) 0 ∷ [] = drop-cons old (length xs * n) 0 (omega arith) ∙ ap (λ (z : List ℕ). getD old (length xs * n) 0 ∷ z) (drop-of-length-le old past) in
       rw (o', last) (set-at (joined f xs) (getD old (length xs * n) 0) [] v (length xs * n) all)
 
--- the entries that pass: `sets out n cs` is `out` with cs stored from n on
-pub sets-append : (xs ys l : List ℕ) (i : ℕ) → sets (sets l i xs) (i + length xs) ys ≡ sets l i (xs ++ ys)
-sets-append [] ys l i = ap (λ (k : ℕ). sets l k ys) (omega arith)
-sets-append (x ∷ xs) ys l i = ap (λ (k : ℕ). sets (sets (set l i x) (suc i) xs) k ys) (omega arith) ∙ sets-append xs ys (set l i x) (suc i)
-
+-- the entries that pass
 pub sets-all : (xs l : List ℕ) → length xs ≡ length l → sets l 0 xs ≡ xs
 sets-all xs l e =
     let past : length l ≤ 0 + length xs = omega arith in
