@@ -1,10 +1,10 @@
 -- Eight bins copied together: pair by pair, spectrum by spectrum; and a bin of the copy has the pairs of the bin that was copied.
 -- Assumes nothing.
-use Prim.Native.Nat.{ℕ, zero, suc, _+_, _*_, _≤_, _<_}
-use mathlib.Core.List.{List, [], _∷_, _++_}
+use Prim.Native.Nat.{ℕ, suc, _+_, _*_, _≤_, _<_}
+use mathlib.Core.List.{List, _++_}
 use mathlib.Core.Path.{_≡_, refl, sym, ap, _∙_}
 use native.Mathlib.Decide.{decLt}
-use native.Mathlib.Nat.{add-zero, zero-mul, zero-add, suc-mul, mul-comm, mul-le-mul-right, zero-lt-suc}
+use native.Mathlib.Nat.{suc-mul, mul-comm, mul-le-mul-right}
 use native.Mathlib.Omega.{arith}
 use lib.Ieee.{Float}
 use lib.ListN.{length, drop}
@@ -14,7 +14,7 @@ use Rattle.lists.specs.Select.{upTo-same}
 use Rattle.lists.specs.Fill.{fill-part, fill-own}
 use Rattle.complex.specs.Complex.{Pair}
 use Rattle.spectra.specs.Spectra.{pairAt, withPair, column}
-use Rattle.spectra.specs.Flat.{pair-with-same, pair-with-other}
+use Rattle.spectra.specs.Flat.{pair-with-same, pair-with-other, column-is}
 use Rattle.ratio.specs.Ratio.{ratioOf}
 use Rattle.ratio.specs.Inner.{Copied, Gathered, Filled}
 
@@ -54,32 +54,11 @@ gather-again xs len first n at old new e h c = record { pairs = λ j i l m. by j
         let from : at + i ≡ n * len + (first + i) = omega arith in
         rw (z, to, ← from) (c .here i m)
 
--- ---- columns of the same pairs
-columns-same : (xs ys : List Float) (len wide b a j n : ℕ) → ((i : ℕ) → i < n → pairAt ys ((j + i) * wide + a) ≡ pairAt xs ((j + i) * len + b))
-    → column ys wide (j * wide + a) n ≡ column xs len (j * len + b) n
-unfolding column
-columns-same xs ys len wide b a j zero h = refl
-columns-same xs ys len wide b a j (suc n) h =
-    let first : pairAt ys (j * wide + a) ≡ pairAt xs (j * len + b) = rw (add-zero j) at (h 0 (zero-lt-suc n)) in
-    let rest : column ys wide (j * wide + a + wide) n ≡ column xs len (j * len + b + len) n =
-    ap (λ (k : ℕ). column ys wide k n) (next wide j a)
-    ∙ columns-same xs ys len wide b a (suc j) n (λ i l. rw (further j i) at (h (suc i) (omega arith)))
-    ∙ ap (λ (k : ℕ). column xs len k n) (sym (next len j b)) in
-    λ t. first t ∷ rest t
-  where
-    further : (j i : ℕ) → j + suc i ≡ suc j + i
-    further j i = omega arith
-
-    next : (len j b : ℕ) → j * len + b + len ≡ suc j * len + b
-    next len j b = rw suc-mul (omega arith)
-
+-- ---- a bin of the copy
 pub gathered-column : (xs : List Float) (len first n : ℕ) (block : List Float) (i : ℕ) → i < 8 → Gathered xs len first n block
     → column block 8 i n ≡ column xs len (first + i) n
 gathered-column xs len first n block i m h =
-    let at : (len b : ℕ) → 0 * len + b ≡ b = λ len b. rw (zero-mul len) (zero-add b) in
-    ap (λ (k : ℕ). column block 8 k n) (sym (at 8 i))
-    ∙ columns-same xs block len 8 (first + i) i 0 n (λ j l. rw (zero-add j) (h .pairs j i l m))
-    ∙ ap (λ (k : ℕ). column xs len k n) (at len (first + i))
+    column-is block 8 i n ∙ upTo-same _ _ n (λ j l. h .pairs j i l m) ∙ sym (column-is xs len (first + i) n)
 
 -- ---- the ratios of eight bins more
 pub eight-more : (xs : List Float) (len n first : ℕ) (block old out new : List Float) → Gathered xs len first n block → first + 8 ≤ length old

@@ -51,6 +51,13 @@ pub record Wholes (len : ℕ) (xs : List Float) : Type 0 where
 abbrev pub Allowed : Change → ℕ → List Float → Type 0
 Allowed c len xs = (c .gain ≡ 0) ⊎ ((c .gain ≤ most) × Wholes len xs)
 
+-- ---- the next spectrum's pair
+further : (j i : ℕ) → j + suc i ≡ suc j + i
+further j i = omega arith
+
+next : (len j b : ℕ) → j * len + b + len ≡ suc j * len + b
+next len j b = rw suc-mul (omega arith)
+
 -- ---- a bin of the changed spectra has the pairs of the bin that was moved there, changed
 changed-column : (c : Change) (len : ℕ) (xs ys : List Float) (b b' j n : ℕ)
     → ((i : ℕ) → i < n → pairAt ys ((j + i) * len + b') ≡ changedPair c (j + i) (pairAt xs ((j + i) * len + b)))
@@ -63,12 +70,6 @@ changed-column c len xs ys b b' j (suc n) h =
     let s : column ys len (j * len + b' + len) n ≡ changedFrom c (suc j) (column xs len (j * len + b + len) n) =
     ap (λ (a : ℕ). column ys len a n) (next len j b') ∙ changed-column c len xs ys b b' (suc j) n r ∙ ap (λ (a : ℕ). changedFrom c (suc j) (column xs len a n)) (sym (next len j b)) in
     λ k. z k ∷ s k
-  where
-    further : (j i : ℕ) → j + suc i ≡ suc j + i
-    further j i = omega arith
-
-    next : (len j b : ℕ) → j * len + b + len ≡ suc j * len + b
-    next len j b = rw suc-mul (omega arith)
 
 pub changed-bin : (c : Change) (len : ℕ) (move : ℕ → ℕ) (xs ys : List Float) (b : ℕ) → b < len → Changed c len move xs ys
     → binPairs len ys (move b) ≡ changedFrom c 0 (binPairs len xs b)
@@ -92,12 +93,6 @@ whole-column len xs b j (suc n) h = (
   rw (add-zero j) at (h 0 (zero-lt-suc n)),
   subst (λ (a : ℕ). WholePairs (column xs len a n)) (sym (next len j b)) (whole-column len xs b (suc j) n (λ i l. rw (further j i) at (h (suc i) (omega arith)))),
 )
-  where
-    further : (j i : ℕ) → j + suc i ≡ suc j + i
-    further j i = omega arith
-
-    next : (len j b : ℕ) → j * len + b + len ≡ suc j * len + b
-    next len j b = rw suc-mul (omega arith)
 
 pub whole-bin : (len : ℕ) (xs : List Float) (b : ℕ) → b < len → Wholes len xs → WholePairs (binPairs len xs b)
 whole-bin len xs b B h =

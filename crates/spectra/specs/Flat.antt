@@ -1,11 +1,12 @@
--- Laws of pairs laid flat: their length, their pairs, that a list is its own pairs laid flat, and what one stored pair changes.
+-- Laws of pairs laid flat: their length, their pairs, that a list is its own pairs laid flat, what one stored pair changes, and which pairs a
+-- column has.
 -- Assumes nothing.
 use Prim.Native.Nat.{ℕ, zero, suc, _+_, _*_, _/_, _≤_, _<_}
-use mathlib.Core.List.{List, [], _∷_}
+use mathlib.Core.List.{List, [], _∷_, _++_}
 use mathlib.Core.Logic.{_≢_}
 use mathlib.Core.Path.{_≡_, refl, sym, ap, _∙_}
 use native.Mathlib.Omega.{arith}
-use native.Mathlib.Nat.{le-of-suc-le-suc, not-suc-le-zero}
+use native.Mathlib.Nat.{le-of-suc-le-suc, not-suc-le-zero, zero-mul, zero-add, suc-mul}
 use native.Mathlib.Decide.{decLe}
 use lib.ListN.{getD, set, length, length-set}
 use lib.Ieee.{Float, nan}
@@ -13,7 +14,7 @@ use lib.Seq.{ext-getD, getD-set-same, getD-set-other}
 use Rattle.lists.specs.Lists.{upTo}
 use Rattle.lists.specs.Select.{length-upTo, getD-upTo}
 use Rattle.complex.specs.Complex.{Pair, pair}
-use Rattle.spectra.specs.Spectra.{pairAt, flat, withPair}
+use Rattle.spectra.specs.Spectra.{pairAt, flat, withPair, column}
 
 pub length-flat : (ps : List Pair) → length (flat ps) ≡ 2 * length ps
 unfolding flat
@@ -62,3 +63,16 @@ pair-with-other xs k j v n = λ t. pair (other (2 * j) (λ e. n (omega arith)) (
   where
     other : (i : ℕ) → i ≢ 2 * k → i ≢ 2 * k + 1 → getD (withPair xs k v) i nan ≡ getD xs i nan
     other i a b = getD-set-other (set xs (2 * k) (v .re)) (2 * k + 1) i (v .im) nan b ∙ getD-set-other xs (2 * k) i (v .re) nan a
+
+-- ---- a column, pair by pair
+column-last : (xs : List Float) (len k n : ℕ) → column xs len k (suc n) ≡ column xs len k n ++ (pairAt xs (n * len + k) ∷ [])
+unfolding column
+column-last xs len k zero = rw (zero-mul len, zero-add k) refl
+column-last xs len k (suc n) =
+    let at : n * len + (k + len) ≡ suc n * len + k = rw suc-mul (omega arith) in
+    ap (λ (l : List Pair). pairAt xs k ∷ l) (column-last xs len (k + len) n ∙ ap (λ (i : ℕ). column xs len (k + len) n ++ (pairAt xs i ∷ [])) at)
+
+pub column-is : (xs : List Float) (len k n : ℕ) → column xs len k n ≡ upTo (λ j. pairAt xs (j * len + k)) n
+unfolding column
+column-is xs len k zero = refl
+column-is xs len k (suc n) = column-last xs len k n ∙ ap (λ (l : List Pair). l ++ (pairAt xs (n * len + k) ∷ [])) (column-is xs len k n)
