@@ -2,8 +2,11 @@
 // compare each entry with what the port answers, and print how many were compared and how many
 // differ.
 ghost use Prim.Native.Nat.{_+_, _*_, _≤_};
+ghost use mathlib.Core.Bool.{true, false, cond};
 ghost use mathlib.Core.Path.{_≡_};
-ghost use lib.ListN.{length};
+ghost use lib.Dec.{eqb};
+ghost use lib.ListN.{length, getD};
+ghost use Rattle.replay.specs.Tally.{capped, Counted, unlike, numberAt, holds};
 use libc::STDIN_FILENO;
 use libc::STDOUT_FILENO;
 
@@ -16,15 +19,26 @@ pub struct Tally {
 }
 
 // a + b, or the largest number where that is more.
-fn sum(a: u64, b: u64) -> u64 {
+fn sum(a: u64, b: u64) -> u64
+    ensures { λ r. ⌜ r ≡ capped (a + b) ⌝ }
+{
     if u64::MAX - b < a {
         return u64::MAX;
     }
     a + b
 }
 
+// A difference, unless `good`.
+fn unless(good: bool) -> u64
+    ensures { λ r. ⌜ r ≡ cond good 0 1 ⌝ }
+{
+    if good { 0 } else { 1 }
+}
+
 impl Tally {
-    pub fn new() -> Tally {
+    pub fn new() -> Tally
+        ensures { λ r. ⌜ (r .compared ≡ 0) × (r .differ ≡ 0) × (r .cut ≡ false) ⌝ }
+    {
         Tally {
             compared: 0,
             differ: 0,
@@ -33,27 +47,31 @@ impl Tally {
     }
 
     // One more entry, which is the same on both sides or not.
-    pub fn entry(self, same: bool) -> Tally {
-        let wrong = if same { 0 } else { 1 };
+    pub fn entry(self, same: bool) -> Tally
+        ensures { λ r. ⌜ Counted self 1 (cond same 0 1) (self .cut) r ⌝ }
+    {
         Tally {
             compared: sum(self.compared, 1),
-            differ: sum(self.differ, wrong),
+            differ: sum(self.differ, unless(same)),
             cut: self.cut,
         }
     }
 
     // A difference, unless `good`, that belongs to no entry.
-    pub fn expect(self, good: bool) -> Tally {
-        let wrong = if good { 0 } else { 1 };
+    pub fn expect(self, good: bool) -> Tally
+        ensures { λ r. ⌜ Counted self 0 (cond good 0 1) (self .cut) r ⌝ }
+    {
         Tally {
             compared: self.compared,
-            differ: sum(self.differ, wrong),
+            differ: sum(self.differ, unless(good)),
             cut: self.cut,
         }
     }
 
     // The input was cut here: one difference.
-    pub fn ended(self) -> Tally {
+    pub fn ended(self) -> Tally
+        ensures { λ r. ⌜ Counted self 0 1 true r ⌝ }
+    {
         Tally {
             compared: self.compared,
             differ: sum(self.differ, 1),
@@ -62,7 +80,9 @@ impl Tally {
     }
 
     // This count, where the input was read on by another one.
-    pub fn after(self, other: Tally) -> Tally {
+    pub fn after(self, other: Tally) -> Tally
+        ensures { λ r. ⌜ Counted self 0 0 (other .cut) r ⌝ }
+    {
         Tally {
             compared: self.compared,
             differ: self.differ,
@@ -71,7 +91,9 @@ impl Tally {
     }
 
     // Both counts together.
-    pub fn with(self, other: Tally) -> Tally {
+    pub fn with(self, other: Tally) -> Tally
+        ensures { λ r. ⌜ Counted self (other .compared) (other .differ) (self .cut) r ⌝ }
+    {
         Tally {
             compared: sum(self.compared, other.compared),
             differ: sum(self.differ, other.differ),
@@ -131,15 +153,18 @@ pub fn read_head(room: &mut [u8]) -> Head {
     Head::Piece
 }
 
-fn wide(byte: u8) -> u64 {
+fn wide(byte: u8) -> u64
+    ensures { λ r. ⌜ r ≡ byte ⌝ }
+{
     byte as u64
 }
 
 // The number of two bytes, the low one first, that begins at an index.
 pub fn number_at(bytes: &[u8], at: usize) -> u64
     requires { ⌜ at + 2 ≤ length (now bytes) ⌝ }
+    ensures { λ r. ⌜ r ≡ numberAt (now (bytes .entry)) at ⌝ }
 {
-    wide(bytes[at + 1]) << 8 | wide(bytes[at])
+    wide(bytes[at + 1]) * 256 + wide(bytes[at])
 }
 
 // A number that was read, or that the input ended.
@@ -169,6 +194,7 @@ pub fn read_number() -> Stored {
 // Compares the first n bytes that the port gave with those that are stored.
 fn compare_bytes(got: &[u8], stored: &[u8], n: usize, tally: Tally) -> Tally
     requires { ⌜ (n ≤ length (now got)) × (n ≤ length (now stored)) ⌝ }
+    ensures { λ r. ⌜ Counted tally n (unlike (λ i. eqb (getD (now (got .entry)) i 0) (getD (now (stored .entry)) i 0)) n) (tally .cut) r ⌝ }
 {
     let mut t = tally;
     let mut i: usize = 0;
@@ -179,12 +205,16 @@ fn compare_bytes(got: &[u8], stored: &[u8], n: usize, tally: Tally) -> Tally
     t
 }
 
-fn wide_number(number: u32) -> u64 {
+fn wide_number(number: u32) -> u64
+    ensures { λ r. ⌜ r ≡ number ⌝ }
+{
     number as u64
 }
 
 // Whether a list has a number at an index.
-fn has(list: &[u32], i: usize, number: u64) -> bool {
+fn has(list: &[u32], i: usize, number: u64) -> bool
+    ensures { λ r. ⌜ r ≡ holds (now (list .entry)) i number ⌝ }
+{
     if list.len() <= i {
         return false;
     }
@@ -194,6 +224,7 @@ fn has(list: &[u32], i: usize, number: u64) -> bool {
 // Compares what the port gave with the first n numbers that are stored.
 fn compare_numbers(got: &[u32], stored: &[u8], n: usize, tally: Tally) -> Tally
     requires { ⌜ 2 * n ≤ length (now stored) ⌝ }
+    ensures { λ r. ⌜ Counted tally n (unlike (λ i. holds (now (got .entry)) i (numberAt (now (stored .entry)) (2 * i))) n) (tally .cut) r ⌝ }
 {
     let mut t = tally;
     let mut i: usize = 0;

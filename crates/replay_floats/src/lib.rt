@@ -3,8 +3,11 @@
 ghost use Prim.Native.Nat.{_+_, _*_, _≤_};
 ghost use mathlib.Core.Bool.{true};
 ghost use mathlib.Core.Path.{_≡_};
-ghost use lib.ListN.{length};
-ghost use Rattle.replay_floats.specs.Bits.{bits32, bits64, Sevens};
+ghost use lib.Dec.{eqb};
+ghost use lib.Ieee.{nan};
+ghost use lib.ListN.{length, getD};
+ghost use Rattle.replay.specs.Tally.{Counted, unlike};
+ghost use Rattle.replay_floats.specs.Bits.{bits32, bits64, wordAt, Sevens};
 use replay::Tally;
 
 // Room for the most parts of spectra or samples that a record has, as they are stored, and as floats.
@@ -72,8 +75,9 @@ pub fn short_size(byte: u8) -> usize
 // The number of four bytes, the low one first, that begins at an index.
 fn word_at(bytes: &[u8], at: usize) -> u64
     requires { ⌜ at + 4 ≤ length (now bytes) ⌝ }
+    ensures { λ r. ⌜ r ≡ wordAt (now (bytes .entry)) at ⌝ }
 {
-    replay::number_at(bytes, at + 2) << 16 | replay::number_at(bytes, at)
+    replay::number_at(bytes, at + 2) * 65536 + replay::number_at(bytes, at)
 }
 
 // What a stored byte stands for: 128 less than itself.
@@ -161,6 +165,7 @@ pub fn check_signed(got: i64, tally: Tally) -> Tally {
 // Compares the first n floats that the port gave with those that are stored.
 fn compare_floats(got: &[f32], stored: &[u8], n: usize, tally: Tally) -> Tally
     requires { ⌜ (n ≤ length (now got)) × (4 * n ≤ length (now stored)) ⌝ }
+    ensures { λ r. ⌜ Counted tally n (unlike (λ i. eqb (bits32 (getD (now (got .entry)) i nan)) (wordAt (now (stored .entry)) (4 * i))) n) (tally .cut) r ⌝ }
 {
     let mut t = tally;
     let mut i: usize = 0;

@@ -1,18 +1,22 @@
--- `replay::compare_numbers` is safe and ends: there are two bytes to a number, and the index stays below n.
+-- `replay::compare_numbers` meets its contract: entry by entry; there are two bytes to a number.
 -- Assumes nothing.
-use Prim.Native.Nat.{_-_, _≤_}
+use Prim.Native.Nat.{_*_, _-_, _≤_}
+use mathlib.Core.Path.{_≡_, ap, _∙_}
+use Rattle.replay.specs.Tally.{Counted, unlike, numberAt, holds}
+use Rattle.replay.specs.Counts.{none-counted, one-counted}
 use borrow.Author.Needs.{needs}
+use native.Mathlib.Omega.{arith}
 use Rattle.replay.proofs.compare_numbers.Statement.{statement}
 use Rattle.replay.proofs.compare_numbers.Tie as tie
 
 abbrev Inv-loop : tie.InvT-loop
-Inv-loop got stored n t₀ i₀ t i = i ≤ n
+Inv-loop got stored n t₀ i₀ t i = (i ≤ n) × Counted t₀ i (unlike (λ k. holds got k (numberAt stored (2 * k))) i) (t₀ .cut) t
 
 abbrev μ-loop : tie.MeasureT-loop
 μ-loop got stored n t₀ i₀ t i = n - i
 
 loop-holds : tie.Need-loop-holds Inv-loop μ-loop
-loop-holds c = search needs
+loop-holds c = let s = c .before .before in (omega arith, none-counted _ _ (omega (arith, s .good)) (omega (arith, s .good)))
 
 mul-number-at : tie.Need-mul-number-at Inv-loop μ-loop
 mul-number-at c = search needs
@@ -30,13 +34,19 @@ add-i : tie.Need-add-i Inv-loop μ-loop
 add-i c = search needs
 
 loop-less : tie.Need-loop-less Inv-loop μ-loop
-loop-less c = search needs
+loop-less c = omega arith
 
 loop-again : tie.Need-loop-again Inv-loop μ-loop
-loop-again c = search needs
+loop-again c =
+    let l = c .before .before .before .before in
+    let s = l .before .before .before in
+    (omega arith, one-counted _ _ _ _ _ _ (c .before .has .ensures ∙ ap (holds (s .args .got .now) (l .loop .i)) (c .before .before .number-at .ensures)) (l .loop .inv .1) (c .entry .ensures))
 
 returns : tie.Need-returns Inv-loop μ-loop
-returns c = search needs
+returns c =
+    let l = c .before .loop in
+    let all : l .i ≡ c .before .before .before .before .args .n = omega (arith, l .inv .0) in
+    rw all at (l .inv .1)
 
 pub compare-numbers-spec : {M : Type 1} → statement M
 compare-numbers-spec =

@@ -1,18 +1,27 @@
--- `replay_floats::compare_floats` is safe and ends: there are four bytes to a float, and the index stays below n.
+-- `replay_floats::compare_floats` meets its contract: entry by entry; there are four bytes to a float.
 -- Assumes nothing.
-use Prim.Native.Nat.{_-_, _≤_}
+use Prim.Native.Nat.{_*_, _-_, _≤_}
+use mathlib.Core.Path.{_≡_}
+use native.Mathlib.Omega.{arith}
+use lib.Dec.{eqb}
+use lib.Ieee.{nan}
+use lib.ListN.{getD}
+use Rattle.replay.specs.Tally.{Counted, unlike}
+use Rattle.replay.specs.Counts.{none-counted, one-counted}
+use Rattle.replay_floats.specs.Bits.{bits32, wordAt}
 use borrow.Author.Needs.{needs}
 use Rattle.replay_floats.proofs.compare_floats.Statement.{statement}
 use Rattle.replay_floats.proofs.compare_floats.Tie as tie
 
 abbrev Inv-loop : tie.InvT-loop
-Inv-loop got stored n t₀ i₀ t i = i ≤ n
+Inv-loop got stored n t₀ i₀ t i =
+    (i ≤ n) × Counted t₀ i (unlike (λ k. eqb (bits32 (getD got k nan)) (wordAt stored (4 * k))) i) (t₀ .cut) t
 
 abbrev μ-loop : tie.MeasureT-loop
 μ-loop got stored n t₀ i₀ t i = n - i
 
 loop-holds : tie.Need-loop-holds Inv-loop μ-loop
-loop-holds c = search needs
+loop-holds c = let s = c .before .before in (omega arith, none-counted _ _ (omega (arith, s .good)) (omega (arith, s .good)))
 
 mul-bits-32 : tie.Need-mul-bits-32 Inv-loop μ-loop
 mul-bits-32 c = search needs
@@ -36,13 +45,18 @@ add-i : tie.Need-add-i Inv-loop μ-loop
 add-i c = search needs
 
 loop-less : tie.Need-loop-less Inv-loop μ-loop
-loop-less c = search needs
+loop-less c = omega arith
 
 loop-again : tie.Need-loop-again Inv-loop μ-loop
-loop-again c = search needs
+loop-again c =
+    let l = c .before .before .before .before .before in
+    (omega arith, one-counted _ _ _ _ _ _ (λ j. eqb (c .before .before .bits-32 .ensures j) (c .before .word-at .ensures j)) (l .loop .inv .1) (c .entry .ensures))
 
 returns : tie.Need-returns Inv-loop μ-loop
-returns c = search needs
+returns c =
+    let l = c .before .loop in
+    let all : l .i ≡ c .before .before .before .before .args .n = omega (arith, l .inv .0) in
+    rw all at (l .inv .1)
 
 pub compare-floats-spec : {M : Type 1} → statement M
 compare-floats-spec =
