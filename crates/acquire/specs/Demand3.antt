@@ -47,16 +47,19 @@ pub record RefusedAlike (xs ys : List Float) : Type 0 where
   pub guess : (modes guards : List ℕ) (scratch : ℕ) → guessCode modes guards (length ys) scratch ≡ guessCode modes guards (length xs) scratch
 
 -- ---- the shift: spectra xs of n pairs, changed and their bins moved round by s
+-- the proviso of a move by s: by the ratios, shift z beats every other one of the range widened by the move, and moved along it stays in range
+abbrev pub Proviso : Mode → ℕ → ℤ → List Float → ℤ → Type 0
+Proviso mode bound s ratios z = BeatsAll mode ratios (bound + natAbs s) z × InRange bound (z +ℤ s)
+
 pub record ShiftKept (mode : Mode) (bound : ℕ) (s : ℤ) (xs ys old : List Float) : Type 0 where
   -- after an accepted call the ratios left behind are moved round by s, bit for bit
   pub ratios : shiftCode (Known mode) (length xs) (length old) bound ≡ 0
       → MovedRound (fftSize mode) s (shiftLeaves (Known mode) xs bound old) (shiftLeaves (Known mode) ys bound old)
   -- not moved, the answer is the same
   pub answer : s ≡ pos 0 → shiftAnswer (Known mode) ys bound (length old) ≡ shiftAnswer (Known mode) xs bound (length old)
-  -- moved, the shift moves along, with the same score, if the winner beat every other shift of the widened range and stays in range
+  -- moved, the shift moves along, with the same score, if it meets the proviso
   pub moved : (z : ℤ) (score : Float) → shiftAnswer (Known mode) xs bound (length old) ≡ Shift z score
-      → BeatsAll mode (shiftLeaves (Known mode) xs bound old) (bound + natAbs s) z → InRange bound (z +ℤ s)
-      → shiftAnswer (Known mode) ys bound (length old) ≡ Shift (z +ℤ s) score
+      → Proviso mode bound s (shiftLeaves (Known mode) xs bound old) z → shiftAnswer (Known mode) ys bound (length old) ≡ Shift (z +ℤ s) score
 
 -- ---- the kinds: spectra of k_total pairs, changed
 pub record KindsKept (mode : Mode) (xs ys old : List Float) : Type 0 where
@@ -186,9 +189,8 @@ module _ (c : Change) (mode : Mode) (bound : ℕ) (s : ℤ) (xs ys old : List Fl
       (same-winner mode bound (ratios (fftSize mode) xs) (ratios (fftSize mode) ys) (subst (λ (k : ℤ). MovedRound (fftSize mode) k (ratios (fftSize mode) xs) (ratios (fftSize mode) ys)) z (moved-ratios (few-spectra e)))))
 
   moved-along : (z : ℤ) (score : Float) → shiftAnswer (Known mode) xs bound (length old) ≡ Shift z score
-      → BeatsAll mode (shiftLeaves (Known mode) xs bound old) (bound + natAbs s) z → InRange bound (z +ℤ s)
-      → shiftAnswer (Known mode) ys bound (length old) ≡ Shift (z +ℤ s) score
-  moved-along z score e beats inside =
+      → Proviso mode bound s (shiftLeaves (Known mode) xs bound old) z → shiftAnswer (Known mode) ys bound (length old) ≡ Shift (z +ℤ s) score
+  moved-along z score e (beats, inside) =
       let a = was-accepted z score e in
       let w = bestShift mode bound (ratios (fftSize mode) xs) in
       let q : Shift (w .shift) (scoreOf (pattern mode) (w .sum)) ≡ Shift z score = sym (won xs a) ∙ e in
