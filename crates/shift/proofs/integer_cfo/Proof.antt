@@ -1,6 +1,5 @@
 -- `shift::integer_cfo` meets its contract: each refusal is the case that the tests decide, and the search's best place is the winner.
 -- Assumes nothing.
-use mathlib.Core.Path.{sym, _∙_}
 use lib.IntN.{pos}
 use Rattle.ieee.specs.Differences.{held-exactly, difference-fits, difference-is}
 use Rattle.shift.proofs.Codes.{by-spectra, by-bound, by-none}

@@ -1,7 +1,7 @@
 -- `spectra::refusal` meets its contract: each return is the case of the definition that the tests on the way decide. Floats of less than a
 -- spectrum are not whole spectra, and no floats are.
 -- Assumes nothing.
-use Prim.Native.Nat.{ℕ, zero, suc, _*_, _/_, _%_, _<_}
+use Prim.Native.Nat.{ℕ, _*_, _/_, _%_, _<_}
 use mathlib.Core.Path.{_≡_, refl, sym, _∙_}
 use native.Mathlib.Nat.{mod-eq-of-lt, mod-zero, zero-mod, zero-div}
 use borrow.Author.Tests.{eq-eqb, ne-eqb, le-leb, lt-leb, lt-ltb}
