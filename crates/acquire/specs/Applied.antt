@@ -17,7 +17,8 @@ use Rattle.lists.specs.Lists.{upTo}
 use Rattle.lists.specs.Select.{length-upTo, getD-upTo}
 use Rattle.complex.specs.Complex.{Pair, pair}
 use Rattle.spectra.specs.Spectra.{pairAt}
-use Rattle.spectra.specs.Changes.{Change, Changed, changedPair}
+use Rattle.complex.specs.Changes.{Change, changedPair}
+use Rattle.spectra.specs.Changes.{Changed}
 use Rattle.guess.specs.Changed.{Taken}
 use Rattle.shift.specs.Shift.{movedBin}
 use Rattle.shift.specs.MovedBins.{moved-twice, moved-below}

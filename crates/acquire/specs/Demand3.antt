@@ -20,9 +20,10 @@ use Rattle.params.specs.declared.ModeNumber.{ModeNumber}
 use Rattle.params.specs.declared.ModeNumber.the-variants.{Known}
 use Rattle.params.specs.Params.{fftSize, totalCarriers}
 use Rattle.spectra.specs.Spectra.{spectraIn, binPairs}
-use Rattle.spectra.specs.Changes.{Change, Changed, Allowed}
+use Rattle.complex.specs.Changes.{Change}
+use Rattle.spectra.specs.Changes.{Changed, Allowed}
 use Rattle.ratio.specs.Ratio.{ratios, ratioOf, metricLeaves}
-use Rattle.ratio.specs.Accepted.{accepted as accepted-ratios}
+use Rattle.ratio.specs.Codes.{accepted as accepted-ratios}
 use Rattle.ratio.specs.Unchanged.{changed-ratios, changed-ratio-at}
 use Rattle.shift.specs.declared.ShiftAnswer.{ShiftAnswer}
 use Rattle.shift.specs.declared.ShiftAnswer.the-variants.{Shift, Refused}

@@ -27,9 +27,9 @@ use Rattle.frame.specs.OneRole.{band-length, wide-size}
 use Rattle.carrier_lists.specs.DataList.{data-length}
 use Rattle.frame.specs.Operations.{areKinds, layoutCode}
 use Rattle.carrier_lists.specs.Operations.{ContinualListed, continualListCode, continualListAnswer, continualListLeaves}
-use Rattle.frame.specs.Written.{AcceptedLayout}
-use Rattle.carrier_lists.specs.Written.{DataRoom, dataIn, continualIn, Continual, BandBuffer}
-use Rattle.frame.specs.Returns.{kinds-good}
+use Rattle.frame.specs.Inner.{AcceptedLayout}
+use Rattle.carrier_lists.specs.Inner.{DataRoom, dataIn, continualIn, Continual, BandBuffer}
+use Rattle.frame.specs.Answers.{kinds-good}
 
 module _ (mode : Mode) (phase : ℕ) (kinds : List ℕ) where
   abbrev roles : List ℕ

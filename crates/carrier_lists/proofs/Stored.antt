@@ -20,7 +20,7 @@ use Rattle.ofdm.specs.Band.{placeOf}
 use Rattle.ofdm.specs.Laws.{place-below}
 use Rattle.carrier_lists.specs.declared.ContinualList.the-variants.{Count, Refused}
 use Rattle.frame.specs.Roles.{isData, isTmcc, isAc, isCpByte}
-use Rattle.carrier_lists.specs.Written.{Room, Collected, DataRoom, dataIn, continualIn, Continual}
+use Rattle.carrier_lists.specs.Inner.{Room, Collected, DataRoom, dataIn, continualIn, Continual}
 
 pub chosen-fewer : (t : ℕ → Bool) (k : ℕ) (xs : List ℕ) → length (chosen t k xs) ≤ length xs
 chosen-fewer t k [] = omega arith

@@ -2,4 +2,4 @@ pub mod CarrierLists
 pub mod DataList
 pub mod Continual
 pub mod Operations
-pub mod Written
+pub mod Inner

@@ -8,7 +8,7 @@ ghost use Rattle.params.specs.Params.{modeFrom, carriersPerSegment, dataCarrier
 ghost use Rattle.frame.specs.Roles.{bandRoles, wide, between};
 ghost use Rattle.carrier_lists.specs.CarrierLists.{dataList};
 ghost use Rattle.carrier_lists.specs.Operations.{DataList, ContinualListed};
-ghost use Rattle.carrier_lists.specs.Written.{Room, Collected, DataRoom, dataIn, Continual, BandBuffer};
+ghost use Rattle.carrier_lists.specs.Inner.{Room, Collected, DataRoom, dataIn, Continual, BandBuffer};
 use frame::FrameLayout;
 use ofdm::Segment;
 use params::Mode;

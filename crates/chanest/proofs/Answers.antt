@@ -13,8 +13,8 @@ use Rattle.params.specs.declared.Mode.{Mode}
 use Rattle.params.specs.declared.ModeNumber.{ModeNumber}
 use Rattle.params.specs.declared.ModeNumber.the-variants.{Known, Unknown}
 use Rattle.frame.specs.Operations.{areKinds, layoutCode}
-use Rattle.frame.specs.Written.{AcceptedLayout}
-use Rattle.frame.specs.Returns.{kinds-good}
+use Rattle.frame.specs.Inner.{AcceptedLayout}
+use Rattle.frame.specs.Answers.{kinds-good}
 use Rattle.chanest.specs.Grid.{grid, windowCode, gridCode, gridLeaves, GridEstimated}
 
 module _ {number : ModeNumber} {kinds : List ℕ} {code : ℕ} {m : Mode} {read : List ℕ} (a : AcceptedLayout number kinds code m read) (phase : ℕ) (xs : List Float) (t w : ℕ) (old : List Float) where

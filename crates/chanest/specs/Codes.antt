@@ -10,8 +10,8 @@ use Rattle.lists.specs.Refusals.{unless, passed}
 use Rattle.params.specs.declared.Mode.{Mode}
 use Rattle.params.specs.Params.{totalCarriers}
 use Rattle.spectra.specs.Spectra.{spectraIn, spectraCode}
-use Rattle.spectra.specs.Accepted.{later-counts}
-use Rattle.spectra.specs.Accepted.{accepted as spectra-accepted}
+use Rattle.spectra.specs.Codes.{later-counts}
+use Rattle.spectra.specs.Codes.{accepted as spectra-accepted}
 use Rattle.chanest.specs.Grid.{gridPoints, windowCode}
 
 module _ (mode : Mode) (phase floats t w n : ℕ) where

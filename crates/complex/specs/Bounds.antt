@@ -15,13 +15,10 @@ use Rattle.ieee.specs.Levels.{Level, Scaled, Whole, two, wholes, constant, many
 use Rattle.ieee.specs.Gain.{roomy-one, within-scaled, gained, times-scaled, plus-scaled, minus-scaled, one-scaled, zero-scaled, constant-scaled, times-of}
 use Rattle.ieee.specs.Sums.{total, prefixes, Each, total-scaled, prefixes-scaled}
 use Rattle.ieee.specs.Times.{lt-times, quotient-times}
+use Rattle.complex.specs.Changes.{most, WholePair, amplified}
 use Rattle.complex.specs.Complex.{Pair, pair, product, conjugate, squaredSize, scaled, norm32, norm64}
 use Rattle.complex.specs.Gains.{BothScaled, twoProducts, normLevel, product-scaled, size-scaled, conjugate-scaled, factor-scaled, norm32-scaled, norm64-scaled}
 use Rattle.complex.specs.Totals.{totals, totals-scaled}
-
--- the largest gain is 2 ^ 8, 256
-abbrev pub most : ℕ
-most = 8
 
 -- +0.0 is at every level
 zero-at : (f : Format) (l : Level) (k : ℕ) → Scaled l k (plusZero f) (plusZero f)
@@ -40,15 +37,6 @@ above-zero-gain f l k x y h = lt-times (l .power * k) _ _ x y (times-of k l _ _ 
 -- ---- the parts of spectra and samples
 abbrev pub partLevel : Level
 partLevel = wholes 15
-
--- both parts whole numbers from -32,768 to 32,768
-pub record WholePair (x : Pair) : Type 0 where
-  pub re : Whole 15 (x .re)
-  pub im : Whole 15 (x .im)
-
--- the pair, amplified
-abbrev pub amplified : ℕ → Pair → Pair
-amplified k x = scaled binary32 x (two k)
 
 module _ (k : ℕ) (K : k ≤ most) where
   pub part-gain : (x : Pair) → WholePair x → BothScaled partLevel k x (amplified k x)

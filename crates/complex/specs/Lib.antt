@@ -1,4 +1,5 @@
 pub mod Complex
+pub mod Changes
 pub mod Turns
 pub mod Gains
 pub mod Totals

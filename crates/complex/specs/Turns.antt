@@ -9,15 +9,8 @@ use Rattle.ieee.specs.Narrow.{narrowOf}
 use Rattle.ieee.specs.Root.{rootOf}
 use Rattle.ieee.specs.Signs.{plus-comm, times-neg, times-neg-r, times-neg-neg, neg-neg, flip, times-flip, times-flip-both, square-flip, neg-flip}
 use Rattle.ieee.specs.Zeros.{canon, plus-flip, plus-alike, times-alike, square-alike}
+use Rattle.complex.specs.Changes.{turned, negated}
 use Rattle.complex.specs.Complex.{Pair, pair, product, conjugate, squaredSize, scaled, norm64, norm32}
-
--- a quarter turn makes (a, b) into (-b, a)
-abbrev pub turned : Pair → Pair
-turned x = pair (neg (x .im)) (x .re)
-
--- both parts with the other sign, or as they are
-abbrev pub negated : Bool → Pair → Pair
-negated b x = pair (flip b (x .re)) (flip b (x .im))
 
 -- equal but for the sign of a zero
 pub record Alike (x y : Pair) : Type 0 where

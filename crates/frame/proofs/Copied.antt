@@ -15,7 +15,7 @@ use Rattle.params.specs.declared.Mode.{Mode}
 use Rattle.params.specs.declared.ModeNumber.{ModeNumber}
 use Rattle.params.specs.declared.ModeNumber.the-variants.{Known, Unknown}
 use Rattle.frame.specs.Operations.{layoutCode}
-use Rattle.frame.specs.Written.{AcceptedKinds, AcceptedLayout}
+use Rattle.frame.specs.Inner.{AcceptedKinds, AcceptedLayout}
 
 never : {A : Type 0} → false ≡ true → A
 never e = absurd (let z : _≡_ {A = ℕ} 0 1 = cc in omega arith)

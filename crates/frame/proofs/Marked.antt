@@ -10,7 +10,7 @@ use lib.Dec.{eqb}
 use lib.ListN.{length, getD, take, drop, set, length-set}
 use lib.Seq.{drop-cons, getD-take, length-take-le, getD-set-same, getD-set-other}
 use Rattle.lists.specs.Tests.{memb}
-use Rattle.frame.specs.Written.{markedAt}
+use Rattle.frame.specs.Inner.{markedAt}
 
 pub length-marked : (ps : List ℕ) (role : ℕ) (out : List ℕ) → length (markedAt ps role out) ≡ length out
 unfolding markedAt

@@ -22,7 +22,7 @@ use Rattle.frame.specs.declared.AcKind.the-variants.{Ac1, Ac2}
 use Rattle.frame.specs.declared.CarrierRole.the-variants.{Data, Sp, Cp, Tmcc, Ac}
 use Rattle.frame.specs.OneRole.{first}
 use Rattle.frame.specs.Roles.{OfdmSegment, roleByte, placeRole, segmentRoles}
-use Rattle.frame.specs.Written.{pilotByte, markedAt, marked, Markable}
+use Rattle.frame.specs.Inner.{pilotByte, markedAt, marked, Markable}
 use Rattle.frame.proofs.Marked.{length-marked, marked-at}
 
 -- a row of the tables may be marked

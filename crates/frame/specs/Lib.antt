@@ -4,5 +4,5 @@ pub mod OneRole
 pub mod BySegment
 pub mod RowsLaid
 pub mod Operations
-pub mod Written
-pub mod Returns
+pub mod Inner
+pub mod Answers

@@ -14,7 +14,7 @@ ghost use Rattle.params.specs.declared.SegmentKind.the-variants.{Coherent};
 ghost use Rattle.tables.specs.Places.{isSp};
 ghost use Rattle.ofdm.specs.Band.{placeOf};
 ghost use Rattle.frame.specs.Roles.{roleByte, ofdmSegment, segmentRoles, bandRoles, wide};
-ghost use Rattle.frame.specs.Written.{pilotByte, marked, Markable, InSegment, AcceptedKinds, AcceptedLayout};
+ghost use Rattle.frame.specs.Inner.{pilotByte, marked, Markable, InSegment, AcceptedKinds, AcceptedLayout};
 ghost use Rattle.frame.specs.Operations.{RoleMap};
 use ofdm::BandCarrier;
 use ofdm::BandPlace;

@@ -18,12 +18,14 @@ use Rattle.ieee.specs.Levels.{Scaled, two}
 use Rattle.ieee.specs.Times.{Times, zero-times, le-times}
 use Rattle.ieee.specs.Gain.{times-of, scaled-product}
 use Rattle.complex.specs.Complex.{Pair, product, conjugate, squaredSize, norm64}
-use Rattle.complex.specs.Turns.{turned, negated, turned-product, both-negated-product, turned-size, negated-size}
+use Rattle.complex.specs.Changes.{turned, negated}
+use Rattle.complex.specs.Turns.{turned-product, both-negated-product, turned-size, negated-size}
 use Rattle.complex.specs.Gains.{BothScaled}
-use Rattle.complex.specs.Bounds.{most, WholePair, amplified, partLevel, stepLevel, energyLevel, guessLevel}
+use Rattle.complex.specs.Changes.{most, WholePair, amplified}
+use Rattle.complex.specs.Bounds.{partLevel, stepLevel, energyLevel, guessLevel}
 use Rattle.complex.specs.Bounds.{part-gain, step-gain, energy-gain, metric-gain, correlation-roomy}
 use Rattle.spectra.specs.Spectra.{pairAt}
-use Rattle.spectra.specs.Changes.{turnIf, gainBy}
+use Rattle.complex.specs.Changes.{turnIf, gainBy}
 use Rattle.guess.specs.Samples.{isMode, fftOf, guardOf, symbolOf}
 use Rattle.guess.specs.Guess.{pairsIn, lagsIn, lagProduct, lagEnergy, correlationAt, energyAt, guessAt}
 use Rattle.guess.specs.Guess.{beats, offered, scan, triedGuard, triedMode, guessed}

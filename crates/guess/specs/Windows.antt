@@ -18,7 +18,8 @@ use Rattle.lists.specs.Lists.{upTo, select}
 use Rattle.lists.specs.Select.{length-upTo, upTo-same}
 use Rattle.complex.specs.Complex.{Pair, pair}
 use Rattle.complex.specs.Gains.{BothScaled}
-use Rattle.complex.specs.Bounds.{most, stepLevel, energyLevel, prefixLevel, guessLevel, prefix-gain, difference-gain, guess-sum-gain}
+use Rattle.complex.specs.Changes.{most}
+use Rattle.complex.specs.Bounds.{stepLevel, energyLevel, prefixLevel, guessLevel, prefix-gain, difference-gain, guess-sum-gain}
 use Rattle.complex.specs.Bounds.{correlation-roomy, energy-roomy}
 use Rattle.params.specs.declared.Mode.the-variants.{M1, M2, M3}
 use Rattle.params.specs.declared.ModeNumber.{ModeNumber}

@@ -19,8 +19,8 @@ use Rattle.params.specs.Params.{totalCarriers}
 use Rattle.spectra.specs.Spectra.{spectraIn, areSpectra}
 use Rattle.prbs.specs.Signs.{bandSigns}
 use Rattle.frame.specs.Operations.{areKinds, layoutCode}
-use Rattle.frame.specs.Written.{AcceptedLayout}
-use Rattle.frame.specs.Returns.{kinds-good}
+use Rattle.frame.specs.Inner.{AcceptedLayout}
+use Rattle.frame.specs.Answers.{kinds-good}
 use Rattle.pilot_phase.specs.declared.PilotPhase.the-variants.{NoScatteredPilots, Phase}
 use Rattle.pilot_phase.specs.declared.PilotAnswer.{PilotAnswer}
 use Rattle.pilot_phase.specs.PilotPhase.{pilots, votes, countOf, countsOf, wonBy, nextTo, shareOf, leadOf, phaseCode, phaseAnswer, countsAnswer, PhaseDetected}

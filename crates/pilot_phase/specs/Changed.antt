@@ -21,13 +21,16 @@ use Rattle.params.specs.declared.Mode.{Mode}
 use Rattle.params.specs.declared.ModeNumber.the-variants.{Known}
 use Rattle.params.specs.Params.{totalCarriers}
 use Rattle.complex.specs.Complex.{Pair, pair, product, conjugate, scaled, norm32}
-use Rattle.complex.specs.Turns.{negated, turned-product, both-negated-product, turned-scaled, negated-scaled, turned-size, negated-size, norm32-same}
+use Rattle.complex.specs.Changes.{negated}
+use Rattle.complex.specs.Turns.{turned-product, both-negated-product, turned-scaled, negated-scaled, turned-size, negated-size, norm32-same}
 use Rattle.complex.specs.Gains.{BothScaled}
 use Rattle.complex.specs.Totals.{totals}
-use Rattle.complex.specs.Bounds.{most, WholePair, amplified, pilotLevel, pilotStepLevel, pilotEnergyLevel, part-gain, pilot-gain, pilot-step-gain}
+use Rattle.complex.specs.Changes.{most, WholePair, amplified}
+use Rattle.complex.specs.Bounds.{pilotLevel, pilotStepLevel, pilotEnergyLevel, part-gain, pilot-gain, pilot-step-gain}
 use Rattle.complex.specs.Bounds.{pilot-energy-gain, pilot-sum-gain, pilot-energy-sum-gain, pilot-quotient-gain, above-zero-gain}
 use Rattle.spectra.specs.Spectra.{spectraIn}
-use Rattle.spectra.specs.Changes.{Change, turnIf, gainBy, Changed, Allowed}
+use Rattle.complex.specs.Changes.{Change, turnIf, gainBy}
+use Rattle.spectra.specs.Changes.{Changed, Allowed}
 use Rattle.prbs.specs.Signs.{bandSigns, pilotAmplitude, pilotValue}
 use Rattle.pilot_phase.specs.PilotPhase.{pilots, twelveApart, unsigned, pilotProduct, pilotEnergy, productSum, energySum, phaseMetric}
 use Rattle.pilot_phase.specs.PilotPhase.{Choice, chooseFrom, choiceOf, voteOf, spectrumAt, votes}

@@ -1,5 +1,5 @@
 pub mod Ratio
-pub mod Accepted
+pub mod Codes
 pub mod Inner
 pub mod Unchanged
 pub mod NoMinus

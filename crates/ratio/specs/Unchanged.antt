@@ -16,11 +16,15 @@ use Rattle.ieee.specs.Levels.{Scaled}
 use Rattle.ieee.specs.Sums.{total, Each, each-map, each-equal, total-alike}
 use Rattle.lists.specs.Select.{upTo-same}
 use Rattle.complex.specs.Complex.{Pair, pair, norm32}
-use Rattle.complex.specs.Turns.{turned, negated, Alike, turned-product, negated-product, square-re, square-im, alike-size, norm32-same}
+use Rattle.complex.specs.Changes.{turned, negated}
+use Rattle.complex.specs.Turns.{Alike, turned-product, negated-product, square-re, square-im, alike-size, norm32-same}
 use Rattle.complex.specs.Gains.{BothScaled}
 use Rattle.complex.specs.Totals.{totals, reals, imaginaries, totals-parts}
-use Rattle.complex.specs.Bounds.{most, WholePair, amplified, stepLevel, termLevel, binLevel, part-gain, step-gain, square-gain, size-gain, bin-sum-gain, bin-energy-gain, ratio-gain, above-zero-gain}
-use Rattle.spectra.specs.Changes.{Change, turnIf, gainBy, changedFrom, Changed, Allowed, WholePairs, changed-bin, whole-bin, length-bin}
+use Rattle.complex.specs.Changes.{most, WholePair, amplified}
+use Rattle.complex.specs.Bounds.{stepLevel, termLevel, binLevel, part-gain, step-gain, square-gain, size-gain, bin-sum-gain, bin-energy-gain, ratio-gain, above-zero-gain}
+use Rattle.complex.specs.Changes.{Change, turnIf, gainBy}
+use Rattle.spectra.specs.ChangedBins.{changedFrom, WholePairs, changed-bin, whole-bin, length-bin}
+use Rattle.spectra.specs.Changes.{Changed, Allowed}
 use Rattle.spectra.specs.Spectra.{binPairs, spectraIn}
 use Rattle.ratio.specs.Ratio.{stepsFrom, steps, squareOf, sizeOf, correlation, energy, guarded, ratioOf, ratios}
 

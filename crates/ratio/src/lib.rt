@@ -8,7 +8,7 @@ ghost use Rattle.lists.specs.Lists.{upTo};
 ghost use Rattle.complex.specs.Complex.{of32, norm32};
 ghost use Rattle.spectra.specs.Spectra.{column};
 ghost use Rattle.ratio.specs.Ratio.{guarded, ratioOf, ratios, metricCode, MetricTaken};
-ghost use Rattle.ratio.specs.Accepted.{Accepted};
+ghost use Rattle.ratio.specs.Codes.{Accepted};
 ghost use Rattle.ratio.specs.Inner.{Started, Stepped, Summed, Copied, Gatherable, Gathered, Countable, Filled};
 use complex::C32;
 

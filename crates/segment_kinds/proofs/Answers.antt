@@ -13,7 +13,7 @@ use Rattle.params.specs.declared.ModeNumber.{ModeNumber}
 use Rattle.params.specs.declared.ModeNumber.the-variants.{Known, Unknown}
 use Rattle.params.specs.Params.{totalCarriers}
 use Rattle.ratio.specs.Ratio.{ratios, metricCode, metricLeaves, MetricTaken}
-use Rattle.ratio.specs.Accepted.{ratios-length, left-written}
+use Rattle.ratio.specs.Codes.{ratios-length, left-written}
 use Rattle.segment_kinds.specs.declared.DetectedKinds.{DetectedKinds}
 use Rattle.segment_kinds.specs.SegmentKinds.{kindsCode, kindsLeaves, kindsAnswer, scoresAnswer, KindsDetected}
 use Rattle.segment_kinds.specs.Inner.{AllDetected, NoKinds}

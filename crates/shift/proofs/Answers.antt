@@ -15,7 +15,7 @@ use Rattle.params.specs.declared.ModeNumber.the-variants.{Known, Unknown}
 use Rattle.params.specs.Params.{fftSize}
 use Rattle.params.specs.Laws.{sized}
 use Rattle.ratio.specs.Ratio.{ratios, metricCode, MetricTaken}
-use Rattle.ratio.specs.Accepted.{ratios-length, left-written}
+use Rattle.ratio.specs.Codes.{ratios-length, left-written}
 use Rattle.shift.specs.declared.Best.{Best}
 use Rattle.shift.specs.declared.ShiftAnswer.the-variants.{Shift, Refused}
 use Rattle.shift.specs.Shift.{pattern, scoreOf, winner, bestShift, shiftCode, shiftLeaves, shiftAnswer, Shifted}

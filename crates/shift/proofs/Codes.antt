@@ -9,7 +9,7 @@ use Rattle.params.specs.declared.Mode.{Mode}
 use Rattle.params.specs.declared.ModeNumber.the-variants.{Known}
 use Rattle.params.specs.Params.{fftSize}
 use Rattle.ratio.specs.Ratio.{metricCode}
-use Rattle.ratio.specs.Accepted.{later-counts}
+use Rattle.ratio.specs.Codes.{later-counts}
 use Rattle.shift.specs.Shift.{shiftCode}
 
 -- the operation's code, by the tests on the way

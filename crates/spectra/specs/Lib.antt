@@ -1,4 +1,5 @@
 pub mod Spectra
 pub mod Changes
-pub mod Accepted
+pub mod ChangedBins
+pub mod Codes
 pub mod Flat

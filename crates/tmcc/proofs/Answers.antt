@@ -12,8 +12,8 @@ use Rattle.params.specs.declared.ModeNumber.{ModeNumber}
 use Rattle.params.specs.declared.ModeNumber.the-variants.{Known, Unknown}
 use Rattle.params.specs.Params.{totalCarriers}
 use Rattle.frame.specs.Operations.{areKinds, layoutCode}
-use Rattle.frame.specs.Written.{AcceptedLayout}
-use Rattle.frame.specs.Returns.{kinds-good}
+use Rattle.frame.specs.Inner.{AcceptedLayout}
+use Rattle.frame.specs.Answers.{kinds-good}
 use Rattle.tmcc.specs.declared.SoftTmcc.the-variants.{Value, Refused}
 use Rattle.tmcc.specs.Tmcc.{softValue, softCode, softAnswer}
 

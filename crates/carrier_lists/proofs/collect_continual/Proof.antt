@@ -4,7 +4,7 @@ use mathlib.Core.Path.{refl}
 use Prim.Native.Nat.{_≤_}
 use lib.ListN.{length, length-set}
 use Rattle.frame.specs.Roles.{isTmcc, isAc, isCpByte}
-use Rattle.carrier_lists.specs.Written.{continualIn}
+use Rattle.carrier_lists.specs.Inner.{continualIn}
 use Rattle.carrier_lists.proofs.Stored.{count-small, continual-count, refused-short, three-size, continual-stored}
 use borrow.Author.Needs.{needs}
 use native.Mathlib.Omega.{arith}

@@ -3,7 +3,7 @@
 use Prim.Native.Nat.{ℕ, _-_}
 use mathlib.Core.Path.{ap, _∙_}
 use Rattle.lists.specs.Lists.{joined, range}
-use Rattle.carrier_lists.specs.Written.{dataIn}
+use Rattle.carrier_lists.specs.Inner.{dataIn}
 use Rattle.carrier_lists.proofs.Stored.{DataTo, data-begin, data-size, data-ends, data-room, data-again, data-done}
 use borrow.Author.Needs.{needs}
 use native.Mathlib.Omega.{arith}

@@ -5,7 +5,7 @@ use mathlib.Core.Path.{sym, ap, _∙_}
 use Rattle.params.specs.Params.{dataCarriersPerSegment}
 use Rattle.params.specs.Laws.{sized}
 use Rattle.carrier_lists.specs.CarrierLists.{dataList}
-use Rattle.frame.specs.Returns.{refused-layout, refused-phase, refused-length, answered}
+use Rattle.frame.specs.Answers.{refused-layout, refused-phase, refused-length, answered}
 use borrow.Author.Needs.{needs}
 use native.Mathlib.Omega.{arith}
 use Rattle.carrier_lists.proofs.data_list.Statement.{statement}

@@ -4,7 +4,7 @@ use Prim.Native.Nat.{_-_, _≤_}
 use mathlib.Core.Path.{_≡_, refl, sym, ap, _∙_}
 use lib.ListN.{length, take, drop, length-set, drop-of-length-le}
 use lib.Seq.{length-take-le}
-use Rattle.frame.specs.Written.{markedAt}
+use Rattle.frame.specs.Inner.{markedAt}
 use Rattle.frame.proofs.Marked.{mark-one}
 use borrow.Author.Needs.{needs}
 use native.Mathlib.Omega.{arith}

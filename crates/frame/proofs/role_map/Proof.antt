@@ -5,7 +5,7 @@ use mathlib.Core.Path.{sym, ap, _∙_}
 use Prim.Native.Nat.{ℕ}
 use Rattle.params.specs.Params.{totalCarriers}
 use Rattle.frame.specs.Roles.{bandRoles, wide}
-use Rattle.frame.specs.Returns.{refused-layout, refused-phase, refused-length, answered}
+use Rattle.frame.specs.Answers.{refused-layout, refused-phase, refused-length, answered}
 use borrow.Author.Needs.{needs}
 use Rattle.frame.proofs.role_map.Statement.{statement}
 use Rattle.frame.proofs.role_map.Tie as tie

@@ -6,7 +6,7 @@ use mathlib.Core.Path.{_≡_, refl}
 use lib.ListN.{length, drop, length-set}
 use Rattle.lists.specs.Lists.{upTo}
 use Rattle.lists.specs.Fill.{fill-again, fill-done}
-use Rattle.frame.specs.Written.{pilotByte}
+use Rattle.frame.specs.Inner.{pilotByte}
 use borrow.Author.Needs.{needs}
 use native.Mathlib.Omega.{arith}
 use Rattle.frame.proofs.write_pilots.Statement.{statement}

@@ -1,7 +1,7 @@
 -- `host::sillurwy_detect_kinds` meets its contract: what was found is handed on where nothing refuses.
 -- Assumes nothing.
 use mathlib.Core.Path.{sym, _∙_}
-use Rattle.host.proofs.Accepted.{kept, taken}
+use Rattle.host.proofs.Answers.{kept, taken}
 use borrow.Author.Needs.{needs}
 use Rattle.host.proofs.sillurwy_detect_kinds.Statement.{statement}
 use Rattle.host.proofs.sillurwy_detect_kinds.Tie as tie

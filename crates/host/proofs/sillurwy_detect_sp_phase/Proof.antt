@@ -2,7 +2,7 @@
 -- Assumes nothing.
 use mathlib.Core.Path.{sym, ap, _∙_}
 use Rattle.host.specs.Host.{phaseFound, phaseIn, shareIn}
-use Rattle.host.proofs.Accepted.{kept, taken}
+use Rattle.host.proofs.Answers.{kept, taken}
 use borrow.Author.Needs.{needs}
 use Rattle.host.proofs.sillurwy_detect_sp_phase.Statement.{statement}
 use Rattle.host.proofs.sillurwy_detect_sp_phase.Tie as tie

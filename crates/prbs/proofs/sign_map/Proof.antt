@@ -1,7 +1,7 @@
 -- `prbs::sign_map` meets its contract: each return is the case of the definition that the tests on the way decide.
 -- Assumes nothing.
 use mathlib.Core.Path.{sym, _∙_}
-use Rattle.prbs.proofs.Returns.{sign-bad-mode, sign-bad-length, sign-written}
+use Rattle.prbs.proofs.Answers.{sign-bad-mode, sign-bad-length, sign-written}
 use borrow.Author.Needs.{needs}
 use Rattle.prbs.proofs.sign_map.Statement.{statement}
 use Rattle.prbs.proofs.sign_map.Tie as tie

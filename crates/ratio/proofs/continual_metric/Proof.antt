@@ -4,7 +4,7 @@ use mathlib.Core.Path.{sym, _∙_}
 use borrow.Author.Tests.{eq-eqb, ne-eqb}
 use borrow.Author.Needs.{needs}
 use Rattle.ratio.specs.Ratio.{metricLeaves}
-use Rattle.ratio.specs.Accepted.{accepted}
+use Rattle.ratio.specs.Codes.{accepted}
 use Rattle.ratio.proofs.continual_metric.Statement.{statement}
 use Rattle.ratio.proofs.continual_metric.Tie as tie
 

@@ -7,7 +7,7 @@ use borrow.Author.Needs.{needs}
 use lib.Dec.{eqb}
 use Rattle.lists.specs.Refusals.{unless, refused-first, let-pass}
 use Rattle.spectra.specs.Spectra.{spectraCode}
-use Rattle.spectra.specs.Accepted.{later-counts}
+use Rattle.spectra.specs.Codes.{later-counts}
 use Rattle.ratio.specs.Ratio.{metricCode}
 use Rattle.ratio.proofs.refusal.Statement.{statement}
 use Rattle.ratio.proofs.refusal.Tie as tie

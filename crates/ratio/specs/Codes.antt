@@ -11,7 +11,7 @@ use lib.ListN.{length}
 use Rattle.lists.specs.Select.{length-upTo}
 use Rattle.lists.specs.Refusals.{unless, passed, InFront, one-in-front, both-in-front}
 use Rattle.spectra.specs.Spectra.{spectraIn, spectraCode}
-use Rattle.spectra.specs.Accepted as spectra
+use Rattle.spectra.specs.Codes as spectra
 use Rattle.ratio.specs.Ratio.{ratios, metricCode, metricLeaves, MetricTaken}
 
 pub later-counts : (len n r : ℕ) → InFront (metricCode len n r)

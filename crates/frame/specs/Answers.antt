@@ -11,7 +11,7 @@ use Rattle.params.specs.declared.Mode.{Mode}
 use Rattle.params.specs.declared.ModeNumber.{ModeNumber}
 use Rattle.params.specs.declared.ModeNumber.the-variants.{Known, Unknown}
 use Rattle.frame.specs.Operations.{areKinds, layoutCode, SymbolAnswer, symbolCode, symbolLeaves}
-use Rattle.frame.specs.Written.{AcceptedLayout}
+use Rattle.frame.specs.Inner.{AcceptedLayout}
 
 -- a layout's refusal is the operation's
 kinds-tested : (good : Bool) → _≡_ {A = ℕ} (cond good 0 2) 0 → good ≡ true
