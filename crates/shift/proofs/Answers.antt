@@ -14,7 +14,7 @@ use Rattle.params.specs.declared.ModeNumber.{ModeNumber}
 use Rattle.params.specs.declared.ModeNumber.the-variants.{Known, Unknown}
 use Rattle.params.specs.Params.{fftSize}
 use Rattle.params.specs.Laws.{sized}
-use Rattle.ratio.specs.Ratio.{ratios, metricCode, MetricTaken}
+use Rattle.ratio.specs.Ratio.{binRatios, metricCode, MetricTaken}
 use Rattle.ratio.specs.Codes.{ratios-length, left-written}
 use Rattle.shift.specs.declared.Best.{Best}
 use Rattle.shift.specs.declared.ShiftAnswer.the-variants.{Shift, Refused}
@@ -49,19 +49,19 @@ mode-bins m n e = omega (arith, sized m .band, sized m .within, sized m .fft-hig
 pub shift-small : (m : Mode) (n at bound : ℕ) → n ≡ fftSize m → bound ≤ n / 2 → at ≤ 2 * bound → at + bound < 16777216
 shift-small m n at bound size h i = omega (arith, mode-bins m n size)
 
-pub searchable : (m : Mode) (xs now : List Float) (n bound : ℕ) → n ≡ fftSize m → now ≡ ratios n xs → bound ≤ n / 2 → Bounded (length now) bound
+pub searchable : (m : Mode) (xs now : List Float) (n bound : ℕ) → n ≡ fftSize m → now ≡ binRatios n xs → bound ≤ n / 2 → Bounded (length now) bound
 searchable m xs now n bound size left h =
     let all : length now ≡ n = rw left (ratios-length n xs) in
     let bins = mode-bins m n size in
     record { some = omega arith; few = omega arith; within = omega arith }
 
 -- ---- `continual_metric` refuses nothing that was let pass by its own number
-pub written : (n : ℕ) (xs old now : List Float) (code r : ℕ) → code ≡ metricCode n (length xs) (length old) 0 → code ≡ 0 → MetricTaken n xs old r now → now ≡ ratios n xs
+pub written : (n : ℕ) (xs old now : List Float) (code r : ℕ) → code ≡ metricCode n (length xs) (length old) 0 → code ≡ 0 → MetricTaken n xs old r now → now ≡ binRatios n xs
 written n xs old now code r told z taken = left-written n xs old now r taken (taken .code ∙ sym told ∙ z)
 
 -- ---- the search's winner is the definition's
-best-is : (m : Mode) (xs now : List Float) (bins : List ℕ) (n bound : ℕ) (best : Best) → n ≡ fftSize m → now ≡ ratios n xs → bins ≡ pattern m
-    → Found bins now bound best → winner (minus (best .at) bound) (best .sum) ≡ bestShift m bound (ratios (fftSize m) xs)
+best-is : (m : Mode) (xs now : List Float) (bins : List ℕ) (n bound : ℕ) (best : Best) → n ≡ fftSize m → now ≡ binRatios n xs → bins ≡ pattern m
+    → Found bins now bound best → winner (minus (best .at) bound) (best .sum) ≡ bestShift m bound (binRatios (fftSize m) xs)
 unfolding bestShift
 best-is m xs now bins n bound best size left are found = found .wins ∙ rw (left, ratios-length n xs, size, are)
 
@@ -77,7 +77,7 @@ module _ (number read : ModeNumber) (told : read ≡ number) (xs old : List Floa
     refused k e h = record { answer = rw (← told, known, e, ne-eqb k 0 h); leaves = rw (← told, known, e, ne-eqb k 0 h) }
 
     pub answered : (bins : List ℕ) (now : List Float) (n count : ℕ) (best : Best) (z : ℤ) → shiftCode (Known m) (length xs) (length old) bound ≡ 0
-        → n ≡ fftSize m → now ≡ ratios n xs → bins ≡ pattern m → count ≡ length bins → Found bins now bound best → z ≡ minus (best .at) bound
+        → n ≡ fftSize m → now ≡ binRatios n xs → bins ≡ pattern m → count ≡ length bins → Found bins now bound best → z ≡ minus (best .at) bound
         → Shifted number xs bound old (Shift z (div binary32 (best .sum) (ofInt binary32 (pos count)))) now
     unfolding shiftAnswer shiftLeaves scoreOf
     answered bins now n count best z code size left are long found shifted =
