@@ -33,14 +33,14 @@ pub record Laid (n : ℕ) (bins : List ℕ) : Type 0 where
   pub some : 0 < n
   pub counted : T (positive (ofInt binary32 (pos (length bins))))
 
+pattern-counted : (mode : Mode) → T (positive (ofInt binary32 (pos (length (pattern mode)))))
+unfolding pattern patternCarriers ofInt
+pattern-counted M1 = tt
+pattern-counted M2 = tt
+pattern-counted M3 = tt
+
 pub pattern-laid : (mode : Mode) → Laid (fftSize mode) (pattern mode)
-pattern-laid mode = record { some = omega (arith, sized mode .band, sized mode .within); counted = counted mode }
-  where
-    counted : (mode : Mode) → T (positive (ofInt binary32 (pos (length (pattern mode)))))
-    unfolding pattern patternCarriers ofInt
-    counted M1 = tt
-    counted M2 = tt
-    counted M3 = tt
+pattern-laid mode = record { some = omega (arith, sized mode .band, sized mode .within); counted = pattern-counted mode }
 
 -- no ratio has a minus sign, so `f32::MIN` loses to every sum that is no NaN
 abbrev pub NoMinus : ℕ → List Float → Type 0
