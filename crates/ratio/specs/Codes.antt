@@ -1,10 +1,10 @@
 -- What the refusal of ratios decides: the tests behind it count only where it is 0, and then the floats are whole spectra, 1 to 1,024 of them,
--- with as many ratios lent as a spectrum has bins. The ratios are written where nothing is refused, and else left alone.
+-- with as many ratios lent as a spectrum has bins. The ratios are written where nothing is refused.
 -- Assumes nothing.
 use Prim.Native.Nat.{ℕ, _≤_, _<_}
 use mathlib.Core.List.{List}
 use mathlib.Core.Path.{_≡_}
-use borrow.Author.Tests.{eqb-true, eq-eqb, ne-eqb}
+use borrow.Author.Tests.{eqb-true, eq-eqb}
 use lib.Dec.{eqb, lit<}
 use lib.Ieee.{Float}
 use lib.ListN.{length}
@@ -12,7 +12,7 @@ use Rattle.lists.specs.Select.{length-upTo}
 use Rattle.lists.specs.Refusals.{unless, passed, InFront, one-in-front, both-in-front}
 use Rattle.spectra.specs.Spectra.{spectraIn, spectraCode}
 use Rattle.spectra.specs.Codes as spectra
-use Rattle.ratio.specs.Ratio.{ratios, metricCode, metricLeaves, MetricTaken}
+use Rattle.ratio.specs.Ratio.{binRatios, metricCode, metricLeaves, MetricTaken}
 
 pub later-counts : (len n r : ℕ) → InFront (metricCode len n r)
 later-counts len n r = both-in-front (spectraCode len n) (unless (eqb r len) 7) (spectra.later-counts len n) (one-in-front (eqb r len) 7 (lit< tt))
@@ -30,15 +30,11 @@ accepted len n r later e =
     record { some = s .some; few = s .few; bins = eqb-true r len (l .first); rest = l .rest }
 
 -- ---- what is left of the lent ratios
-pub ratios-length : (len : ℕ) (xs : List Float) → length (ratios len xs) ≡ len
-unfolding ratios
+pub ratios-length : (len : ℕ) (xs : List Float) → length (binRatios len xs) ≡ len
+unfolding binRatios
 ratios-length len xs = length-upTo _ len
 
 module _ (len : ℕ) (xs old now : List Float) (r : ℕ) (taken : MetricTaken len xs old r now) where
-  pub left-written : r ≡ 0 → now ≡ ratios len xs
+  pub left-written : r ≡ 0 → now ≡ binRatios len xs
   unfolding metricLeaves
   left-written z = rw (← taken .code, eq-eqb r 0 z) at (taken .leaves)
-
-  pub left-alone : (r ≡ 0 → ⊥) → now ≡ old
-  unfolding metricLeaves
-  left-alone h = rw (← taken .code, ne-eqb r 0 h) at (taken .leaves)

@@ -12,7 +12,7 @@ use Rattle.ieee.specs.Signs.{negative, square-sign, plus-sign, quotient-sign, r
 use Rattle.lists.specs.Select.{getD-upTo}
 use Rattle.complex.specs.Complex.{Pair, norm64, norm32}
 use Rattle.spectra.specs.Spectra.{binPairs}
-use Rattle.ratio.specs.Ratio.{correlation, energy, guarded, ratioOf, ratios}
+use Rattle.ratio.specs.Ratio.{correlation, energy, guarded, ratioOf, binRatios}
 
 size-sign : (x : Pair) → negative (norm32 x) ≡ false
 unfolding norm32 norm64
@@ -38,6 +38,6 @@ ratio-sign : (xs : List Pair) → negative (ratioOf xs) ≡ false
 unfolding ratioOf
 ratio-sign xs = guarded-sign (norm32 (correlation xs)) (energy xs) (size-sign (correlation xs))
 
-pub ratios-sign : (n : ℕ) (xs : List Float) (b : ℕ) → b < n → negative (getD (ratios n xs) b nan) ≡ false
-unfolding ratios
+pub ratios-sign : (n : ℕ) (xs : List Float) (b : ℕ) → b < n → negative (getD (binRatios n xs) b nan) ≡ false
+unfolding binRatios
 ratios-sign n xs b h = ap negative (getD-upTo (λ b. ratioOf (binPairs n xs b)) n b nan h) ∙ ratio-sign (binPairs n xs b)

@@ -2,7 +2,7 @@
 -- of a pair and the conjugate of the one before it. Continual carriers give about 1. 0.0 where the energy is not above 0.
 -- Assumes nothing.
 use Prim.Native.Nat.{ℕ}
-use mathlib.Core.Bool.{cond}
+use mathlib.Core.Bool.{Bool, cond}
 use mathlib.Core.List.{List, [], _∷_, map}
 use mathlib.Core.Path.{_≡_}
 use lib.Dec.{eqb}
@@ -38,24 +38,28 @@ correlation xs = totals binary32 (pair (plusZero binary32) (plusZero binary32)) 
 unfoldable pub energy : List Pair → Float
 energy xs = total binary32 (plusZero binary32) (map sizeOf (steps xs))
 
+-- an energy above zero; a NaN is not
+abbrev pub aboveZero : Float → Bool
+aboveZero d = lt (plusZero binary32) d
+
 -- n / d where d is above zero, and 0.0 elsewhere
 abbrev pub guarded : Float → Float → Float
-guarded n d = cond (lt (plusZero binary32) d) (div binary32 n d) (plusZero binary32)
+guarded n d = cond (aboveZero d) (div binary32 n d) (plusZero binary32)
 
 unfoldable pub ratioOf : List Pair → Float
 ratioOf xs = guarded (norm32 (correlation xs)) (energy xs)
 
 -- the ratio of every bin of spectra of len pairs
-unfoldable pub ratios : ℕ → List Float → List Float
-ratios len xs = upTo (λ b. ratioOf (binPairs len xs b)) len
+unfoldable pub binRatios : ℕ → List Float → List Float
+binRatios len xs = upTo (λ b. ratioOf (binPairs len xs b)) len
 
 -- ---- the operation, with later tests behind: 5 unless whole spectra of len pairs, at most 1,024; 6 if none; 7 unless len ratios
 abbrev pub metricCode : ℕ → ℕ → ℕ → ℕ → ℕ
-metricCode len floats ratios later = spectraCode len floats (unless (eqb ratios len) 7 later)
+metricCode len floats room later = spectraCode len floats (unless (eqb room len) 7 later)
 
 -- the lent ratios at exit
 unfoldable pub metricLeaves : ℕ → List Float → List Float → List Float
-metricLeaves len xs old = cond (eqb (metricCode len (length xs) (length old) 0) 0) (ratios len xs) old
+metricLeaves len xs old = cond (eqb (metricCode len (length xs) (length old) 0) 0) (binRatios len xs) old
 
 pub record MetricTaken (len : ℕ) (xs old : List Float) (r : ℕ) (now : List Float) : Type 0 where
   pub code : r ≡ metricCode len (length xs) (length old) 0

@@ -1,12 +1,12 @@
--- A bin's ratio does not change, by a bit, where its pairs are turned by a quarter, where those of some symbols change their sign, or where
--- all are amplified by a power of two; nor under all of these together.
+-- What a change of spectra does to a bin's sums (`changed-sums`). Turn and sign leave the energy as it is, bit for bit, and the correlation but for
+-- the sign of a zero; the gain multiplies both by its fourth power. What is read off the sums follows: the ratio is the same, bit for bit, and so
+-- is whether the energy is above zero.
 -- Assumes nothing.
-use Prim.Native.Nat.{ℕ, zero, suc, _+_, _≤_, _<_, zero-le}
+use Prim.Native.Nat.{ℕ, zero, suc, _≤_, _<_}
 use mathlib.Core.Bool.{Bool, true, false, cond}
 use mathlib.Core.List.{List, [], _∷_, map}
 use mathlib.Core.Logic.{_⊎_, inl, inr}
-use mathlib.Core.Path.{_≡_, refl, sym, ap, _∙_}
-use native.Mathlib.Nat.{add-zero}
+use mathlib.Core.Path.{_≡_, refl, sym, ap, _∙_, subst}
 use native.Mathlib.Omega.{arith}
 use lib.ListN.{length, length-map}
 use lib.Ieee.{Float, binary32, binary64, unlike}
@@ -15,183 +15,202 @@ use Rattle.ieee.specs.Zeros.{canon}
 use Rattle.ieee.specs.Levels.{Scaled}
 use Rattle.ieee.specs.Sums.{total, Each, each-map, each-equal, total-alike}
 use Rattle.lists.specs.Select.{upTo-same}
-use Rattle.complex.specs.Complex.{Pair, pair, norm32}
-use Rattle.complex.specs.Changes.{turned, negated}
+use Rattle.complex.specs.Complex.{Pair, pair, product, conjugate, norm32}
+use Rattle.complex.specs.Changes.{Change, changedPair, turnIf, negated, gainBy, amplified, most, WholePair}
 use Rattle.complex.specs.Turns.{Alike, turned-product, negated-product, square-re, square-im, alike-size, norm32-same}
 use Rattle.complex.specs.Gains.{BothScaled}
-use Rattle.complex.specs.Totals.{totals, reals, imaginaries, totals-parts}
-use Rattle.complex.specs.Changes.{most, WholePair, amplified}
-use Rattle.complex.specs.Bounds.{stepLevel, termLevel, binLevel, part-gain, step-gain, square-gain, size-gain, bin-sum-gain, bin-energy-gain, ratio-gain, above-zero-gain}
-use Rattle.complex.specs.Changes.{Change, turnIf, gainBy}
+use Rattle.complex.specs.Totals.{reals, imaginaries, totals-parts}
+use Rattle.complex.specs.Bounds.{stepLevel, termLevel, binLevel, part-gain, step-gain, square-gain, size-gain}
+use Rattle.complex.specs.Bounds.{bin-sum-gain, bin-energy-gain, ratio-gain, above-zero-gain}
 use Rattle.spectra.specs.ChangedBins.{changedFrom, WholePairs, changed-bin, whole-bin, length-bin}
 use Rattle.spectra.specs.Changes.{Changed, Allowed}
 use Rattle.spectra.specs.Spectra.{binPairs, spectraIn}
-use Rattle.ratio.specs.Ratio.{stepsFrom, steps, squareOf, sizeOf, correlation, energy, guarded, ratioOf, ratios}
+use Rattle.ratio.specs.Ratio.{stepsFrom, steps, squareOf, sizeOf, correlation, energy, aboveZero, guarded, ratioOf, binRatios}
+use Rattle.ratio.specs.Facts.{every-step}
 
--- ---- a quarter turn: every product is the same
-turned-from : (y : Pair) (xs : List Pair) → stepsFrom (turned y) (map turned xs) ≡ stepsFrom y xs
-unfolding stepsFrom
-turned-from y [] = refl
-turned-from y (x ∷ xs) = λ i. turned-product binary32 x y i ∷ turned-from x xs i
+-- ---- the statement
+-- the sums of zs are those of xs: at a gain of 1 the same, whatever they hold; else whole numbers, multiplied by 2 ^ (4 * gain)
+abbrev pub SumsGained : ℕ → List Pair → List Pair → Type 0
+SumsGained gain xs zs =
+    (zs ≡ xs) ⊎ ((gain ≤ most) × BothScaled binLevel gain (correlation xs) (correlation zs) × Scaled binLevel gain (energy xs) (energy zs))
 
-turned-steps : (xs : List Pair) → steps (map turned xs) ≡ steps xs
-unfolding steps
-turned-steps [] = refl
-turned-steps (x ∷ xs) = turned-from x xs
+-- xs are a bin's pairs, ys the same changed, with a gain of 2 ^ gain
+pub record SumsKept (gain : ℕ) (xs ys : List Pair) : Type 0 where
+  -- signs and turn: the sums are those of the pairs that are amplified and no more, but for the sign of a zero in the correlation
+  pub alike : Alike (correlation ys) (correlation (map (gainBy gain) xs))
+  pub same : energy ys ≡ energy (map (gainBy gain) xs)
+  -- gain: those are the sums before, amplified
+  pub gained : SumsGained gain xs (map (gainBy gain) xs)
 
--- the sums read the products alone
-abbrev correlationOf : List Pair → Pair
-correlationOf ps = totals binary32 (pair (plusZero binary32) (plusZero binary32)) (map squareOf ps)
+-- ---- what is read off the sums
+module _ (gain : ℕ) (xs ys : List Pair) (h : SumsKept gain xs ys) where
+  abbrev louder : List Pair
+  louder = map (gainBy gain) xs
 
-abbrev energyOf : List Pair → Float
-energyOf ps = total binary32 (plusZero binary32) (map sizeOf ps)
+  pub kept-energy : aboveZero (energy ys) ≡ aboveZero (energy xs)
+  kept-energy =
+      ap aboveZero (h .same)
+      ∙ elim (h .gained) [
+        | inl e ↦ ap (λ (zs : List Pair). aboveZero (energy zs)) e
+        | inr (K, n, d) ↦ sym (above-zero-gain binary32 binLevel gain (energy xs) (energy louder) d)
+      ]
 
-ratio-is : (xs : List Pair) → ratioOf xs ≡ guarded (norm32 (correlationOf (steps xs))) (energyOf (steps xs))
-unfolding ratioOf correlation energy
-ratio-is xs = refl
+  pub kept-ratio : ratioOf ys ≡ ratioOf xs
+  unfolding ratioOf
+  kept-ratio =
+      (λ i. guarded (norm32-same (correlation ys) (correlation louder) (alike-size binary64 false _ _ (h .alike)) i) (h .same i))
+      ∙ elim (h .gained) [
+        | inl e ↦ ap (λ (zs : List Pair). guarded (norm32 (correlation zs)) (energy zs)) e
+        | inr (K, n, d) ↦
+            (λ i. cond (sym (above-zero-gain binary32 binLevel gain (energy xs) (energy louder) d) i)
+            (sym (ratio-gain gain K (correlation xs) (correlation louder) (energy xs) (energy louder) n d) i) (plusZero binary32))
+      ]
 
-pub turned-ratio : (xs : List Pair) → ratioOf (map turned xs) ≡ ratioOf xs
-turned-ratio xs = ratio-is (map turned xs) ∙ ap (λ (ps : List Pair). guarded (norm32 (correlationOf ps)) (energyOf ps)) (turned-steps xs) ∙ sym (ratio-is xs)
-
--- ---- some symbols negated: g says which
-abbrev pub signed : (ℕ → Bool) → List Pair → List Pair
-signed g [] = []
-signed g (x ∷ xs) = negated (g zero) x ∷ signed (λ j. g (suc j)) xs
-
+-- ---- signs and turn
 -- each product is the other's, or that with the other sign, but for the sign of a zero
-pub record Signed (p q : Pair) : Type 0 where
-  pub flipped : Bool
-  pub alike : Alike p (negated flipped q)
+record Signed (p q : Pair) : Type 0 where
+  flipped : Bool
+  alike : Alike p (negated flipped q)
 
-signed-from : (b : Bool) (g : ℕ → Bool) (y : Pair) (xs : List Pair) → Each Signed (stepsFrom (negated b y) (signed g xs)) (stepsFrom y xs)
-unfolding stepsFrom Each
-signed-from b g y [] = tt
-signed-from b g y (x ∷ xs) = (record { flipped = unlike (g zero) b; alike = negated-product binary32 (g zero) b x y }, signed-from (g zero) (λ j. g (suc j)) x xs)
+turn-product : (t : Bool) (x y : Pair) → product binary32 (turnIf t x) (conjugate (turnIf t y)) ≡ product binary32 x (conjugate y)
+turn-product true x y = turned-product binary32 x y
+turn-product false x y = refl
 
-signed-steps : (g : ℕ → Bool) (xs : List Pair) → Each Signed (steps (signed g xs)) (steps xs)
-unfolding steps Each
-signed-steps g [] = tt
-signed-steps g (x ∷ xs) = signed-from (g zero) (λ j. g (suc j)) x xs
+module _ (c : Change) where
+  abbrev by : Pair → Pair
+  by x = gainBy (c .gain) x
+
+  changed-product : (i j : ℕ) (x y : Pair)
+      → Signed (product binary32 (changedPair c i x) (conjugate (changedPair c j y))) (product binary32 (by x) (conjugate (by y)))
+  changed-product i j x y =
+      let a = c .negates i in
+      let b = c .negates j in
+      let t = c .turns in
+      record {
+        flipped = unlike a b;
+        alike =
+            subst (λ (p : Pair). Alike (product binary32 (changedPair c i x) (conjugate (changedPair c j y))) (negated (unlike a b) p))
+            (turn-product t (by x) (by y)) (negated-product binary32 a b (turnIf t (by x)) (turnIf t (by y)));
+      }
+
+  changed-after : (j : ℕ) (y : Pair) (xs : List Pair)
+      → Each Signed (stepsFrom (changedPair c j y) (changedFrom c (suc j) xs)) (stepsFrom (by y) (map by xs))
+  unfolding stepsFrom Each
+  changed-after j y [] = tt
+  changed-after j y (x ∷ xs) = (changed-product (suc j) j x y, changed-after (suc j) x xs)
+
+  changed-steps : (xs : List Pair) → Each Signed (steps (changedFrom c 0 xs)) (steps (map by xs))
+  unfolding steps Each
+  changed-steps [] = tt
+  changed-steps (x ∷ xs) = changed-after 0 x xs
 
 -- so the squares' real parts and the sizes are equal, and the squares' imaginary parts but for the sign of a zero
-sizes-same : (ps qs : List Pair) → Each Signed ps qs → map sizeOf ps ≡ map sizeOf qs
-sizes-same ps qs h = each-equal _ _ (each-map Signed (λ x y. x ≡ y) sizeOf (λ p q s. alike-size binary32 (s .flipped) p q (s .alike)) ps qs h)
+module _ (ps qs : List Pair) (h : Each Signed ps qs) where
+  sizes-same : map sizeOf ps ≡ map sizeOf qs
+  sizes-same = each-equal _ _ (each-map Signed (λ x y. x ≡ y) sizeOf (λ p q s. alike-size binary32 (s .flipped) p q (s .alike)) ps qs h)
 
-reals-same : (ps qs : List Pair) → Each Signed ps qs → reals (map squareOf ps) ≡ reals (map squareOf qs)
-reals-same ps qs h =
-    let squares = each-map Signed (λ x y. x .re ≡ y .re) squareOf (λ p q s. square-re binary32 (s .flipped) p q (s .alike)) ps qs h in
-    each-equal _ _ (each-map (λ x y. x .re ≡ y .re) (λ x y. x ≡ y) (λ (x : Pair). x .re) (λ x y e. e) _ _ squares)
+  reals-same : reals (map squareOf ps) ≡ reals (map squareOf qs)
+  reals-same =
+      let squares = each-map Signed (λ x y. x .re ≡ y .re) squareOf (λ p q s. square-re binary32 (s .flipped) p q (s .alike)) ps qs h in
+      each-equal _ _ (each-map (λ x y. x .re ≡ y .re) (λ x y. x ≡ y) (λ (x : Pair). x .re) (λ x y e. e) _ _ squares)
 
-imaginaries-alike : (ps qs : List Pair) → Each Signed ps qs → Each (λ x y. canon x ≡ canon y) (imaginaries (map squareOf ps)) (imaginaries (map squareOf qs))
-imaginaries-alike ps qs h =
-    let squares = each-map Signed (λ x y. canon (x .im) ≡ canon (y .im)) squareOf (λ p q s. square-im binary32 (s .flipped) p q (s .alike)) ps qs h in
-    each-map (λ x y. canon (x .im) ≡ canon (y .im)) (λ x y. canon x ≡ canon y) (λ (x : Pair). x .im) (λ x y e. e) _ _ squares
+  imaginaries-alike : Each (λ x y. canon x ≡ canon y) (imaginaries (map squareOf ps)) (imaginaries (map squareOf qs))
+  imaginaries-alike =
+      let R : Pair → Pair → Type 0 = λ x y. canon (x .im) ≡ canon (y .im) in
+      let squares = each-map Signed R squareOf (λ p q s. square-im binary32 (s .flipped) p q (s .alike)) ps qs h in
+      each-map R (λ x y. canon x ≡ canon y) (λ (x : Pair). x .im) (λ x y e. e) _ _ squares
 
--- the sums have the same squared size
-norms-same : (ps qs : List Pair) → Each Signed ps qs → norm32 (correlationOf ps) ≡ norm32 (correlationOf qs)
-norms-same ps qs h =
-    let z = plusZero binary32 in
-    norm32-same (correlationOf ps) (correlationOf qs)
-    (alike-size binary64 false (correlationOf ps) (correlationOf qs)
-    (rw (totals-parts binary32 (pair z z) (map squareOf ps), totals-parts binary32 (pair z z) (map squareOf qs))
-    (record {
-      re = ap (λ (l : List Float). canon (total binary32 z l)) (reals-same ps qs h);
-      im = total-alike binary32 z z (imaginaries (map squareOf ps)) (imaginaries (map squareOf qs)) refl (imaginaries-alike ps qs h);
-    })))
+module _ (xs ys : List Pair) (h : Each Signed (steps ys) (steps xs)) where
+  signed-energy : energy ys ≡ energy xs
+  unfolding energy
+  signed-energy = ap (total binary32 (plusZero binary32)) (sizes-same (steps ys) (steps xs) h)
 
-pub signed-ratio : (g : ℕ → Bool) (xs : List Pair) → ratioOf (signed g xs) ≡ ratioOf xs
-signed-ratio g xs =
-    let h = signed-steps g xs in
-    ratio-is (signed g xs)
-    ∙ (λ i. guarded (norms-same (steps (signed g xs)) (steps xs) h i) (total binary32 (plusZero binary32) (sizes-same (steps (signed g xs)) (steps xs) h i)))
-    ∙ sym (ratio-is xs)
+  signed-correlation : Alike (correlation ys) (correlation xs)
+  unfolding correlation
+  signed-correlation =
+      let z = plusZero binary32 in
+      rw (totals-parts binary32 (pair z z) (map squareOf (steps ys)), totals-parts binary32 (pair z z) (map squareOf (steps xs)))
+      (record {
+        re = ap (λ (l : List Float). canon (total binary32 z l)) (reals-same (steps ys) (steps xs) h);
+        im = total-alike binary32 z z _ _ refl (imaginaries-alike (steps ys) (steps xs) h);
+      })
 
 -- ---- amplified, where all parts are whole numbers from -32,768 to 32,768
 module _ (k : ℕ) (K : k ≤ most) where
-  gained-from : (y : Pair) (xs : List Pair) → WholePair y → WholePairs xs → Each (BothScaled stepLevel k) (stepsFrom y xs) (stepsFrom (amplified k y) (map (amplified k) xs))
+  gained-after : (y : Pair) (xs : List Pair) → WholePair y → WholePairs xs
+      → Each (BothScaled stepLevel k) (stepsFrom y xs) (stepsFrom (amplified k y) (map (amplified k) xs))
   unfolding stepsFrom Each
-  gained-from y [] h g = tt
-  gained-from y (x ∷ xs) h g = (step-gain k K x (amplified k x) y (amplified k y) (part-gain k K x (g .0)) (part-gain k K y h), gained-from x xs (g .0) (g .1))
+  gained-after y [] h g = tt
+  gained-after y (x ∷ xs) h g =
+      (step-gain k K x (amplified k x) y (amplified k y) (part-gain k K x (g .0)) (part-gain k K y h), gained-after x xs (g .0) (g .1))
 
   gained-steps : (xs : List Pair) → WholePairs xs → Each (BothScaled stepLevel k) (steps xs) (steps (map (amplified k) xs))
   unfolding steps Each
   gained-steps [] g = tt
-  gained-steps (x ∷ xs) g = gained-from x xs (g .0) (g .1)
+  gained-steps (x ∷ xs) g = gained-after x xs (g .0) (g .1)
 
-  gained-squares : (ps qs : List Pair) → Each (BothScaled stepLevel k) ps qs → Each (BothScaled termLevel k) (map squareOf ps) (map squareOf qs)
-  gained-squares = each-map (BothScaled stepLevel k) (BothScaled termLevel k) squareOf (square-gain k K)
-
-  gained-sizes : (ps qs : List Pair) → Each (BothScaled stepLevel k) ps qs → Each (Scaled termLevel k) (map sizeOf ps) (map sizeOf qs)
-  gained-sizes = each-map (BothScaled stepLevel k) (Scaled termLevel k) sizeOf (size-gain k K)
-
-  length-from : (y : Pair) (xs : List Pair) → length (stepsFrom y xs) ≡ length xs
-  unfolding stepsFrom
-  length-from y [] = refl
-  length-from y (x ∷ xs) = ap suc (length-from x xs)
-
-  few-steps : (xs : List Pair) → length xs ≤ 1024 → length (steps xs) ≤ 1024
-  unfolding steps
-  few-steps [] n = zero-le
-  few-steps (x ∷ xs) n = let e = length-from x xs in omega arith
-
-  pub gained-ratio : (xs : List Pair) → length xs ≤ 1024 → WholePairs xs → ratioOf (map (amplified k) xs) ≡ ratioOf xs
-  gained-ratio xs n g =
+  gained-sums : (xs : List Pair) → length xs ≤ 1024 → WholePairs xs → SumsGained k xs (map (amplified k) xs)
+  unfolding correlation energy
+  gained-sums xs N g =
       let ps = steps xs in
       let qs = steps (map (amplified k) xs) in
-      let h = gained-steps xs g in
-      let N = few-steps xs n in
-      let a = bin-sum-gain k K (map squareOf ps) (map squareOf qs) (rw length-map N) (gained-squares ps qs h) in
-      let b = bin-energy-gain k K (map sizeOf ps) (map sizeOf qs) (rw length-map N) (gained-sizes ps qs h) in
-      ratio-is (map (amplified k) xs)
-      ∙ (λ i. cond (sym (above-zero-gain binary32 binLevel k (energyOf ps) (energyOf qs) b) i) (sym (ratio-gain k K (correlationOf ps) (correlationOf qs) (energyOf ps) (energyOf qs) a b) i) (plusZero binary32))
-      ∙ sym (ratio-is xs)
-
--- ---- all changes together
-map-turns : (b : Bool) (xs : List Pair) → ratioOf (map (turnIf b) xs) ≡ ratioOf xs
-map-turns true xs = turned-ratio xs
-map-turns false xs = ap ratioOf (same xs)
-  where
-    same : (xs : List Pair) → map (turnIf false) xs ≡ xs
-    same [] = refl
-    same (x ∷ xs) = ap (λ (l : List Pair). x ∷ l) (same xs)
-
-apart : (c : Change) (j : ℕ) (xs : List Pair) → changedFrom c j xs ≡ signed (λ i. c .negates (j + i)) (map (turnIf (c .turns)) (map (gainBy (c .gain)) xs))
-apart c j [] = refl
-apart c j (x ∷ xs) = λ i. negated (c .negates (sym (add-zero j) i)) (turnIf (c .turns) (gainBy (c .gain) x)) ∷ (apart c (suc j) xs ∙ further) i
-  where
-    later : (j i : ℕ) → suc j + i ≡ j + suc i
-    later j i = omega arith
-
-    further : signed (λ i. c .negates (suc j + i)) (map (turnIf (c .turns)) (map (gainBy (c .gain)) xs)) ≡ signed (λ i. c .negates (j + suc i)) (map (turnIf (c .turns)) (map (gainBy (c .gain)) xs))
-    further = λ k. signed (λ i. c .negates (later j i k)) (map (turnIf (c .turns)) (map (gainBy (c .gain)) xs))
+      let few : length ps ≤ 1024 = omega (arith, every-step xs) in
+      let each = gained-steps xs g in
+      inr
+      (
+        K,
+        bin-sum-gain k K (map squareOf ps) (map squareOf qs) (rw length-map few)
+            (each-map (BothScaled stepLevel k) (BothScaled termLevel k) squareOf (square-gain k K) ps qs each),
+        bin-energy-gain k K (map sizeOf ps) (map sizeOf qs) (rw length-map few)
+            (each-map (BothScaled stepLevel k) (Scaled termLevel k) sizeOf (size-gain k K) ps qs each),
+      )
 
 gain-none : (xs : List Pair) → map (gainBy 0) xs ≡ xs
 gain-none [] = refl
 gain-none (x ∷ xs) = ap (λ (l : List Pair). x ∷ l) (gain-none xs)
 
-gain-some : (k : ℕ) (xs : List Pair) → k ≤ most → length xs ≤ 1024 → WholePairs xs → ratioOf (map (gainBy k) xs) ≡ ratioOf xs
-gain-some zero xs K n g = ap ratioOf (gain-none xs)
-gain-some (suc k) xs K n g = gained-ratio (suc k) K xs n g
+-- ---- all changes together
+-- a bin's pairs may be amplified
+abbrev pub AllowedPairs : ℕ → List Pair → Type 0
+AllowedPairs gain xs = (gain ≡ 0) ⊎ ((gain ≤ most) × WholePairs xs)
 
-pub changed-ratio : (c : Change) (xs : List Pair) → length xs ≤ 1024 → (c .gain ≡ 0) ⊎ ((c .gain ≤ most) × WholePairs xs) → ratioOf (changedFrom c 0 xs) ≡ ratioOf xs
-changed-ratio c xs n h =
-    ap ratioOf (apart c 0 xs)
-    ∙ signed-ratio (λ i. c .negates (0 + i)) (map (turnIf (c .turns)) (map (gainBy (c .gain)) xs))
-    ∙ map-turns (c .turns) (map (gainBy (c .gain)) xs)
-    ∙ elim h [
-      | inl z ↦ ap (λ (k : ℕ). ratioOf (map (gainBy k) xs)) z ∙ ap ratioOf (gain-none xs)
-      | inr g ↦ gain-some (c .gain) xs (g .0) n (g .1)
-    ]
+sums-gained : (gain : ℕ) (xs : List Pair) → length xs ≤ 1024 → AllowedPairs gain xs → SumsGained gain xs (map (gainBy gain) xs)
+sums-gained zero xs N h = inl (gain-none xs)
+sums-gained (suc k) xs N (inl z) = let e : suc k ≡ 0 = z in absurd (omega arith)
+sums-gained (suc k) xs N (inr (K, g)) = gained-sums (suc k) K xs N g
 
--- the ratio of the bin that was moved there
-pub changed-ratio-at : (c : Change) (len : ℕ) (move : ℕ → ℕ) (xs ys : List Float) (b : ℕ) → b < len → spectraIn len (length xs) ≤ 1024 → Allowed c len xs → Changed c len move xs ys
-    → ratioOf (binPairs len ys (move b)) ≡ ratioOf (binPairs len xs b)
-changed-ratio-at c len move xs ys b B N A h =
-    ap ratioOf (changed-bin c len move xs ys b B h)
-    ∙ changed-ratio c (binPairs len xs b) (rw (length-bin len xs b (spectraIn len (length xs))) N)
-    (elim A [ inl z ↦ inl z | inr g ↦ inr (g .0, whole-bin len xs b B (g .1)) ])
+module _ (c : Change) (xs : List Pair) (N : length xs ≤ 1024) (h : AllowedPairs (c .gain) xs) where
+  pub changed-sums : SumsKept (c .gain) xs (changedFrom c 0 xs)
+  changed-sums =
+      record {
+        alike = signed-correlation (map (gainBy (c .gain)) xs) (changedFrom c 0 xs) (changed-steps c xs);
+        same = signed-energy (map (gainBy (c .gain)) xs) (changedFrom c 0 xs) (changed-steps c xs);
+        gained = sums-gained (c .gain) xs N h;
+      }
+
+  pub changed-ratio : ratioOf (changedFrom c 0 xs) ≡ ratioOf xs
+  changed-ratio = kept-ratio (c .gain) xs (changedFrom c 0 xs) changed-sums
+
+  pub changed-energy : aboveZero (energy (changedFrom c 0 xs)) ≡ aboveZero (energy xs)
+  changed-energy = kept-energy (c .gain) xs (changedFrom c 0 xs) changed-sums
+
+-- ---- of the bin that was moved there
+module _ (c : Change) (len : ℕ) (move : ℕ → ℕ) (xs ys : List Float) (b : ℕ) (B : b < len) (N : spectraIn len (length xs) ≤ 1024) (A : Allowed c len xs)
+    (h : Changed c len move xs ys) where
+  pub changed-sums-at : SumsKept (c .gain) (binPairs len xs b) (binPairs len ys (move b))
+  changed-sums-at =
+      rw (changed-bin c len move xs ys b B h)
+      (changed-sums c (binPairs len xs b) (rw (length-bin len xs b (spectraIn len (length xs))) N)
+      (elim A [ inl z ↦ inl z | inr g ↦ inr (g .0, whole-bin len xs b B (g .1)) ]))
+
+  pub changed-ratio-at : ratioOf (binPairs len ys (move b)) ≡ ratioOf (binPairs len xs b)
+  changed-ratio-at = kept-ratio (c .gain) (binPairs len xs b) (binPairs len ys (move b)) changed-sums-at
+
+  pub changed-energy-at : aboveZero (energy (binPairs len ys (move b))) ≡ aboveZero (energy (binPairs len xs b))
+  changed-energy-at = kept-energy (c .gain) (binPairs len xs b) (binPairs len ys (move b)) changed-sums-at
 
 -- not moved, all ratios are the same
-pub changed-ratios : (c : Change) (len : ℕ) (xs ys : List Float) → spectraIn len (length xs) ≤ 1024 → Allowed c len xs → Changed c len (λ b. b) xs ys → ratios len ys ≡ ratios len xs
-unfolding ratios
-changed-ratios c len xs ys N A h = upTo-same (λ b. ratioOf (binPairs len ys b)) (λ b. ratioOf (binPairs len xs b)) len (λ b B. changed-ratio-at c len (λ b. b) xs ys b B N A h)
+pub changed-ratios : (c : Change) (len : ℕ) (xs ys : List Float) → spectraIn len (length xs) ≤ 1024 → Allowed c len xs → Changed c len (λ b. b) xs ys
+    → binRatios len ys ≡ binRatios len xs
+unfolding binRatios
+changed-ratios c len xs ys N A h = upTo-same _ _ len (λ b B. changed-ratio-at c len (λ b. b) xs ys b B N A h)

@@ -7,7 +7,7 @@ ghost use lib.Seq.{sets};
 ghost use Rattle.lists.specs.Lists.{upTo};
 ghost use Rattle.complex.specs.Complex.{of32, norm32};
 ghost use Rattle.spectra.specs.Spectra.{column};
-ghost use Rattle.ratio.specs.Ratio.{guarded, ratioOf, ratios, metricCode, MetricTaken};
+ghost use Rattle.ratio.specs.Ratio.{guarded, ratioOf, binRatios, metricCode, MetricTaken};
 ghost use Rattle.ratio.specs.Codes.{Accepted};
 ghost use Rattle.ratio.specs.Inner.{Started, Stepped, Summed, Copied, Gatherable, Gathered, Countable, Filled};
 use complex::C32;
@@ -71,16 +71,16 @@ fn bin_sums(spectra: &[f32], len: usize, count: usize, bin: usize) -> BinSums
     sums
 }
 
-// What refuses `floats` floats as spectra of `len` pairs with `ratios` ratios lent for them, or 0: 5
+// What refuses `floats` floats as spectra of `len` pairs, with room for `room` ratios lent, or 0: 5
 // unless whole spectra, at most 1,024, 6 if none, 7 unless `len` ratios.
-pub fn refusal(len: usize, floats: usize, ratios: usize) -> u8
-    ensures { λ r. ⌜ r ≡ metricCode len floats ratios 0 ⌝ }
+pub fn refusal(len: usize, floats: usize, room: usize) -> u8
+    ensures { λ r. ⌜ r ≡ metricCode len floats room 0 ⌝ }
 {
     let code = spectra::refusal(len, floats);
     if code != 0 {
         return code;
     }
-    if ratios != len {
+    if room != len {
         return 7;
     }
     0
@@ -152,7 +152,7 @@ fn write_eights(spectra: &[f32], len: usize, count: usize, out: &mut [f32]) -> u
 // The ratios of an accepted call.
 fn write_ratios(spectra: &[f32], len: usize, out: &mut [f32])
     requires { ⌜ Accepted len (length (now spectra)) (length (now out)) 0 ⌝ }
-    ensures { λ _. ⌜ now (out .exit) ≡ ratios len (now (spectra .entry)) ⌝ }
+    ensures { λ _. ⌜ now (out .exit) ≡ binRatios len (now (spectra .entry)) ⌝ }
 {
     let count = spectra.len() / (2 * len);
     let mut b = write_eights(spectra, len, count, out);

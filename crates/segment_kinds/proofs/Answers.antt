@@ -12,7 +12,7 @@ use Rattle.params.specs.declared.Mode.{Mode}
 use Rattle.params.specs.declared.ModeNumber.{ModeNumber}
 use Rattle.params.specs.declared.ModeNumber.the-variants.{Known, Unknown}
 use Rattle.params.specs.Params.{totalCarriers}
-use Rattle.ratio.specs.Ratio.{ratios, metricCode, metricLeaves, MetricTaken}
+use Rattle.ratio.specs.Ratio.{binRatios, metricCode, metricLeaves, MetricTaken}
 use Rattle.ratio.specs.Codes.{ratios-length, left-written}
 use Rattle.segment_kinds.specs.declared.DetectedKinds.{DetectedKinds}
 use Rattle.segment_kinds.specs.SegmentKinds.{kindsCode, kindsLeaves, kindsAnswer, scoresAnswer, KindsDetected}
@@ -43,8 +43,8 @@ module _ (number : ModeNumber) (m : Mode) (known : number ≡ Known m) (xs old n
       let no : eqb code 0 ≡ false = ap (λ (z : ℕ). eqb z 0) (sym code-is) ∙ ne-eqb n 0 h in
       rw known (record { code = a .same ∙ code-is; kinds = rw no (a .kinds); scores = rw no (a .scores); leaves = leaves-is })
 
-  written : n ≡ 0 → now ≡ ratios (totalCarriers m) xs
-  written z = left-written k xs old now n taken z ∙ ap (λ (c : ℕ). ratios c xs) sizes
+  written : n ≡ 0 → now ≡ binRatios (totalCarriers m) xs
+  written z = left-written k xs old now n taken z ∙ ap (λ (c : ℕ). binRatios c xs) sizes
 
   pub banded : n ≡ 0 → length now ≡ totalCarriers m
   banded z = ap length (written z) ∙ ratios-length (totalCarriers m) xs

@@ -20,7 +20,7 @@ use Rattle.params.specs.declared.SegmentKind.the-variants.{Coherent, Differenti
 use Rattle.params.specs.Params.{carriersPerSegment, totalCarriers}
 use Rattle.tables.specs.Places.{tmccOf, ac1Of, ac2Of}
 use Rattle.ofdm.specs.Band.{placeOf}
-use Rattle.ratio.specs.Ratio.{ratios, metricCode, metricLeaves}
+use Rattle.ratio.specs.Ratio.{binRatios, metricCode, metricLeaves}
 use Rattle.segment_kinds.specs.declared.DetectedKinds.{DetectedKinds}
 
 -- ---- a segment's score
@@ -53,8 +53,8 @@ detectedKinds mode ratios = map kindOfScore (kindScores mode ratios)
 
 -- ---- the operation: 1; 5 unless whole spectra, at most 1,024; 6 if none; 7 unless k_total ratios
 unfoldable pub kindsCode : ModeNumber → ℕ → ℕ → ℕ
-kindsCode Unknown floats ratios = 1
-kindsCode (Known m) floats ratios = metricCode (totalCarriers m) floats ratios 0
+kindsCode Unknown floats room = 1
+kindsCode (Known m) floats room = metricCode (totalCarriers m) floats room 0
 
 -- the lent ratios at exit
 unfoldable pub kindsLeaves : ModeNumber → List Float → List Float → List Float
@@ -64,12 +64,12 @@ kindsLeaves (Known m) xs old = metricLeaves (totalCarriers m) xs old
 -- where the call is refused, kinds and scores are zeros
 unfoldable pub kindsAnswer : ModeNumber → List Float → ℕ → List ℕ
 kindsAnswer Unknown xs n = upTo (λ seg. 0) 13
-kindsAnswer (Known m) xs n = cond (eqb (kindsCode (Known m) (length xs) n) 0) (detectedKinds m (ratios (totalCarriers m) xs)) (upTo (λ seg. 0) 13)
+kindsAnswer (Known m) xs n = cond (eqb (kindsCode (Known m) (length xs) n) 0) (detectedKinds m (binRatios (totalCarriers m) xs)) (upTo (λ seg. 0) 13)
 
 unfoldable pub scoresAnswer : ModeNumber → List Float → ℕ → List Float
 scoresAnswer Unknown xs n = upTo (λ seg. plusZero binary32) 13
 scoresAnswer (Known m) xs n =
-    cond (eqb (kindsCode (Known m) (length xs) n) 0) (kindScores m (ratios (totalCarriers m) xs)) (upTo (λ seg. plusZero binary32) 13)
+    cond (eqb (kindsCode (Known m) (length xs) n) 0) (kindScores m (binRatios (totalCarriers m) xs)) (upTo (λ seg. plusZero binary32) 13)
 
 pub record KindsDetected (mode : ModeNumber) (xs old : List Float) (r : DetectedKinds) (now : List Float) : Type 0 where
   pub code : r .code ≡ kindsCode mode (length xs) (length old)

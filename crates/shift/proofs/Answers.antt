@@ -14,12 +14,14 @@ use Rattle.params.specs.declared.ModeNumber.{ModeNumber}
 use Rattle.params.specs.declared.ModeNumber.the-variants.{Known, Unknown}
 use Rattle.params.specs.Params.{fftSize}
 use Rattle.params.specs.Laws.{sized}
-use Rattle.ratio.specs.Ratio.{ratios, metricCode, MetricTaken}
+use Rattle.ratio.specs.Ratio.{binRatios, metricCode, MetricTaken}
 use Rattle.ratio.specs.Codes.{ratios-length, left-written}
 use Rattle.shift.specs.declared.Best.{Best}
-use Rattle.shift.specs.declared.ShiftAnswer.the-variants.{Shift, Refused}
-use Rattle.shift.specs.Shift.{pattern, scoreOf, winner, bestShift, shiftCode, shiftLeaves, shiftAnswer, Shifted}
-use Rattle.shift.specs.Inner.{Put, Bounded, Found}
+use Rattle.shift.specs.declared.ShiftAnswer.{ShiftAnswer}
+use Rattle.shift.specs.declared.ShiftAnswer.the-variants.{Found, Refused}
+use Rattle.shift.specs.Shift.{pattern, scoreOf, winner, bestShift, shiftCode, shiftLeaves, shiftAnswer, shiftNumber, Shifted}
+use Rattle.shift.specs.Facts.{shift-number}
+use Rattle.shift.specs.Inner.{Put, Bounded, BestPlace}
 use Rattle.shift.proofs.Segments.{pattern-few}
 
 -- ---- the pattern in front of the buffer
@@ -49,37 +51,43 @@ mode-bins m n e = omega (arith, sized m .band, sized m .within, sized m .fft-hig
 pub shift-small : (m : Mode) (n at bound : ℕ) → n ≡ fftSize m → bound ≤ n / 2 → at ≤ 2 * bound → at + bound < 16777216
 shift-small m n at bound size h i = omega (arith, mode-bins m n size)
 
-pub searchable : (m : Mode) (xs now : List Float) (n bound : ℕ) → n ≡ fftSize m → now ≡ ratios n xs → bound ≤ n / 2 → Bounded (length now) bound
+pub searchable : (m : Mode) (xs now : List Float) (n bound : ℕ) → n ≡ fftSize m → now ≡ binRatios n xs → bound ≤ n / 2 → Bounded (length now) bound
 searchable m xs now n bound size left h =
     let all : length now ≡ n = rw left (ratios-length n xs) in
     let bins = mode-bins m n size in
     record { some = omega arith; few = omega arith; within = omega arith }
 
 -- ---- `continual_metric` refuses nothing that was let pass by its own number
-pub written : (n : ℕ) (xs old now : List Float) (code r : ℕ) → code ≡ metricCode n (length xs) (length old) 0 → code ≡ 0 → MetricTaken n xs old r now → now ≡ ratios n xs
+pub written : (n : ℕ) (xs old now : List Float) (code r : ℕ) → code ≡ metricCode n (length xs) (length old) 0 → code ≡ 0 → MetricTaken n xs old r now
+    → now ≡ binRatios n xs
 written n xs old now code r told z taken = left-written n xs old now r taken (taken .code ∙ sym told ∙ z)
 
 -- ---- the search's winner is the definition's
-best-is : (m : Mode) (xs now : List Float) (bins : List ℕ) (n bound : ℕ) (best : Best) → n ≡ fftSize m → now ≡ ratios n xs → bins ≡ pattern m
-    → Found bins now bound best → winner (minus (best .at) bound) (best .sum) ≡ bestShift m bound (ratios (fftSize m) xs)
-unfolding bestShift
+best-is : (m : Mode) (xs now : List Float) (bins : List ℕ) (n bound : ℕ) (best : Best) → n ≡ fftSize m → now ≡ binRatios n xs → bins ≡ pattern m
+    → BestPlace bins now bound best
+    → winner (minus (best .at) bound) (best .sum) ≡ bestShift (fftSize m) (pattern m) bound (binRatios (fftSize m) xs)
 best-is m xs now bins n bound best size left are found = found .wins ∙ rw (left, ratios-length n xs, size, are)
 
 -- ---- the returns: `read` is what the mode's number was read as
 module _ (number read : ModeNumber) (told : read ≡ number) (xs old : List Float) (bound : ℕ) where
+  -- the answer's number follows from the answer
+  shifted : (r : ShiftAnswer) (now : List Float) → r ≡ shiftAnswer number xs bound (length old) → now ≡ shiftLeaves number xs bound old
+      → Shifted number xs bound old r now
+  shifted r now a l = record { number = ap shiftNumber a ∙ shift-number number xs bound (length old); answer = a; leaves = l }
+
   pub bad-mode : read ≡ Unknown → Shifted number xs bound old (Refused 1) old
   unfolding shiftAnswer shiftLeaves
-  bad-mode e = record { answer = rw (← told, e); leaves = rw (← told, e) }
+  bad-mode e = shifted _ _ (rw (← told, e)) (rw (← told, e))
 
   module _ (m : Mode) (known : read ≡ Known m) where
     pub refused : (k : ℕ) → shiftCode (Known m) (length xs) (length old) bound ≡ k → (k ≡ 0 → ⊥) → Shifted number xs bound old (Refused k) old
     unfolding shiftAnswer shiftLeaves
-    refused k e h = record { answer = rw (← told, known, e, ne-eqb k 0 h); leaves = rw (← told, known, e, ne-eqb k 0 h) }
+    refused k e h = shifted _ _ (rw (← told, known, e, ne-eqb k 0 h)) (rw (← told, known, e, ne-eqb k 0 h))
 
     pub answered : (bins : List ℕ) (now : List Float) (n count : ℕ) (best : Best) (z : ℤ) → shiftCode (Known m) (length xs) (length old) bound ≡ 0
-        → n ≡ fftSize m → now ≡ ratios n xs → bins ≡ pattern m → count ≡ length bins → Found bins now bound best → z ≡ minus (best .at) bound
-        → Shifted number xs bound old (Shift z (div binary32 (best .sum) (ofInt binary32 (pos count)))) now
+        → n ≡ fftSize m → now ≡ binRatios n xs → bins ≡ pattern m → count ≡ length bins → BestPlace bins now bound best → z ≡ minus (best .at) bound
+        → Shifted number xs bound old (Found (record { shift = z; score = div binary32 (best .sum) (ofInt binary32 (pos count)) })) now
     unfolding shiftAnswer shiftLeaves scoreOf
-    answered bins now n count best z code size left are long found shifted =
+    answered bins now n count best z code size left are long found from =
         let best = best-is m xs now bins n bound best size left are found in
-        record { answer = rw (← told, known, code, ← best, shifted, long, are); leaves = rw (← told, known, code, left, size) }
+        shifted _ _ (rw (← told, known, code, ← best, from, long, are)) (rw (← told, known, code, left, size))

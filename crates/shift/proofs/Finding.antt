@@ -12,8 +12,8 @@ use lib.Ieee.{Float, minus, lt}
 use Rattle.ieee.specs.Constants.{lowest}
 use Rattle.lists.specs.Lists.{range}
 use Rattle.shift.specs.declared.Best.{Best}
-use Rattle.shift.specs.Shift.{sumAt, Winner, winner, searched, shifts}
-use Rattle.shift.specs.Inner.{sumUp, Bounded, Found}
+use Rattle.shift.specs.Shift.{sumAt, Winner, winner, searched, shifts, bestShift}
+use Rattle.shift.specs.Inner.{sumUp, Bounded, BestPlace}
 use Rattle.shift.specs.Searches.{searched-more}
 use Rattle.ieee.specs.Differences.{minus-self}
 use Rattle.shift.proofs.Places.{sum-moved}
@@ -35,7 +35,8 @@ module _ (bins : List ℕ) (ratios : List Float) (bound : ℕ) where
   -- s is the sum at place j
   module _ (j : ℕ) (best : Best) (w : Passed j best) (b : Bounded (length ratios) bound) (h : j ≤ 2 * bound) (s : Float)
       (e : s ≡ sumUp bins ratios (j + (length ratios - bound))) where
-    next : (greater : Bool) → lt (best .sum) s ≡ greater → won (j + 1) ≡ cond greater (winner (minus j bound) s) (winner (minus (best .at) bound) (best .sum))
+    next : (greater : Bool) → lt (best .sum) s ≡ greater
+        → won (j + 1) ≡ cond greater (winner (minus j bound) s) (winner (minus (best .at) bound) (best .sum))
     next greater g =
         let here : sumAt (length ratios) bins ratios (minus j bound) ≡ s = sum-moved bins ratios j bound (b .some) (b .within) ∙ sym e in
         rw (add-one, map-append, searched-more, ← w .wins, here, g)
@@ -46,8 +47,8 @@ module _ (bins : List ℕ) (ratios : List Float) (bound : ℕ) where
     pub search-keep : lt (best .sum) s ≡ false → Passed (j + 1) best
     search-keep g = record { count = omega arith; inside = w .inside; wins = sym (next false g) }
 
-  pub search-done : (j : ℕ) (best : Best) → 2 * bound < j → Passed j best → Found bins ratios bound best
-  unfolding shifts
+  pub search-done : (j : ℕ) (best : Best) → 2 * bound < j → Passed j best → BestPlace bins ratios bound best
+  unfolding shifts bestShift
   search-done j best h w =
       let all : j ≡ 2 * bound + 1 = omega (arith, w .count) in
       record { inside = w .inside; wins = w .wins ∙ ap won all }

@@ -1,18 +1,18 @@
--- What the search for the shift ends with. No shift of the range has a greater sum than the winner. Equal sums keep the most negative: of two
--- shifts whose sums over the ratios of spectra are equal numbers, the less negative never wins. Whatever the ratios, a winner whose sum is above
--- `f32::MIN`, from which the search starts, is at or below the sum of no more negative shift, so that such a sum is less or a NaN. Where every
--- sum is a NaN the answer stays where the search starts, at shift 0 and `f32::MIN`.
+-- What the search for the shift ends with, for any list of bins among n. No shift of the range has a greater sum than the winner. Equal sums keep
+-- the most negative: of two shifts whose sums over the ratios of spectra are equal numbers, the less negative never wins. Whatever the ratios, a
+-- winner whose sum is above `f32::MIN`, from which the search starts, is at or below the sum of no more negative shift, so that such a sum is less
+-- or a NaN. Where every sum is a NaN the answer stays where the search starts, at shift 0 and `f32::MIN`.
 -- This is of sums. Scores are sums divided, and may tie where sums do not: in mode 1 the sums 14 + 2^-20 and 14 + 2^-19 both give the score
 -- 0x3f04bda2, and the greater sum wins.
--- The pattern has 27, 53 and 105 bins in modes 1, 2 and 3.
+-- The pattern has 27, 53 and 105 bins in modes 1, 2 and 3. An answer has the number that its refusals decide.
 -- Assumes nothing.
 use Prim.Native.Nat.{ℕ, _+_, _*_, _<_}
-use mathlib.Core.Bool.{true, false}
+use mathlib.Core.Bool.{Bool, true, false, cond}
 use mathlib.Core.List.{List}
 use mathlib.Core.Logic.{inl, inr}
 use mathlib.Core.Path.{_≡_, refl, sym, ap, _∙_, subst}
 use native.Mathlib.Omega.{arith}
-use lib.Dec.{T}
+use lib.Dec.{T, eqb, eqb→eq}
 use lib.IntN.{ℤ, pos}
 use lib.Ieee.{Float, minus, lt, le, isNan}
 use lib.ListN.{length}
@@ -21,50 +21,66 @@ use Rattle.ieee.specs.Numbers.{same-bool}
 use Rattle.ieee.specs.Order.{le-self}
 use Rattle.params.specs.declared.Mode.{Mode}
 use Rattle.params.specs.declared.Mode.the-variants.{M1, M2, M3}
-use Rattle.params.specs.Params.{fftSize}
-use Rattle.ratio.specs.Ratio.{ratios}
-use Rattle.shift.specs.Shift.{winner, sumAt, bestShift, patternCarriers, pattern}
+use Rattle.params.specs.declared.ModeNumber.{ModeNumber}
+use Rattle.params.specs.declared.ModeNumber.the-variants.{Known, Unknown}
+use Rattle.ratio.specs.Ratio.{binRatios}
+use Rattle.shift.specs.declared.FoundShift.{FoundShift}
+use Rattle.shift.specs.declared.ShiftAnswer.the-variants.{Found, Refused}
+use Rattle.shift.specs.Shift.{winner, sumAt, bestShift, patternCarriers, pattern, shiftCode, shiftAnswer, shiftNumber}
 use Rattle.shift.specs.Searches.{found-kind, found-most, found-first, found-nan}
-use Rattle.shift.specs.Moved.{ratios-no-minus, sum-above}
+use Rattle.shift.specs.Moved.{Laid, ratios-no-minus, sum-above}
 
 -- ---- the winner. Shift number j is j - bound, so the smaller of two numbers is the more negative shift.
--- no shift of the range has a greater sum than the winner
-pub none-greater : (mode : Mode) (bound : ℕ) (ratios : List Float) (j : ℕ) → j < 2 * bound + 1
-    → lt (bestShift mode bound ratios .sum) (sumAt (fftSize mode) (pattern mode) ratios (minus j bound)) ≡ false
-unfolding bestShift
-none-greater mode bound ratios j h = same-bool _ false (found-most (sumAt (fftSize mode) (pattern mode) ratios) bound j h) (λ t. absurd t)
+module _ (n : ℕ) (bins : List ℕ) (bound : ℕ) where
+  -- no shift of the range has a greater sum than the winner
+  pub none-greater : (ratios : List Float) (j : ℕ) → j < 2 * bound + 1
+      → lt (bestShift n bins bound ratios .sum) (sumAt n bins ratios (minus j bound)) ≡ false
+  unfolding bestShift
+  none-greater ratios j h = same-bool _ false (found-most (sumAt n bins ratios) bound j h) (λ t. absurd t)
 
--- equal sums keep the most negative: where the winner's sum is above `f32::MIN`, it is at or below the sum of no more negative shift
-pub most-negative : (mode : Mode) (bound : ℕ) (ratios : List Float) (i j : ℕ) → i < j
-    → bestShift mode bound ratios .shift ≡ minus j bound → T (lt lowest (bestShift mode bound ratios .sum))
-    → le (bestShift mode bound ratios .sum) (sumAt (fftSize mode) (pattern mode) ratios (minus i bound)) ≡ false
-unfolding bestShift
-most-negative mode bound ratios i j l e g =
-    same-bool _ false (found-first (sumAt (fftSize mode) (pattern mode) ratios) bound i j l e g) (λ t. absurd t)
+  -- equal sums keep the most negative: where the winner's sum is above `f32::MIN`, it is at or below the sum of no more negative shift
+  pub most-negative : (ratios : List Float) (i j : ℕ) → i < j
+      → bestShift n bins bound ratios .shift ≡ minus j bound → T (lt lowest (bestShift n bins bound ratios .sum))
+      → le (bestShift n bins bound ratios .sum) (sumAt n bins ratios (minus i bound)) ≡ false
+  unfolding bestShift
+  most-negative ratios i j l e g = same-bool _ false (found-first (sumAt n bins ratios) bound i j l e g) (λ t. absurd t)
 
--- so of two shifts of spectra with equal sums, and no NaN, the less negative never wins
-pub equal-sums : (mode : Mode) (bound : ℕ) (xs : List Float) (i j : ℕ) → i < j → j < 2 * bound + 1
-    → let sum : ℤ → Float = sumAt (fftSize mode) (pattern mode) (ratios (fftSize mode) xs) in
-    sum (minus i bound) ≡ sum (minus j bound) → isNan (sum (minus i bound)) ≡ false
-    → bestShift mode bound (ratios (fftSize mode) xs) .shift ≡ minus j bound → ⊥
-unfolding bestShift
-equal-sums mode bound xs i j l h same number won =
-    let sum : ℤ → Float = sumAt (fftSize mode) (pattern mode) (ratios (fftSize mode) xs) in
-    elim (found-kind sum bound) [
-      | inl start ↦
-          found-most sum bound i (omega arith)
-          (subst (λ w. T (lt (w .sum) (sum (minus i bound)))) (sym start) (sum-above mode _ (minus i bound) (ratios-no-minus (fftSize mode) xs) number))
-      | inr p ↦
-          let own : sum (minus i bound) ≡ bestShift mode bound (ratios (fftSize mode) xs) .sum = same ∙ sym (p .1 ∙ ap sum won) in
-          found-first sum bound i j l won (p .0) (subst (λ x. T (le x (sum (minus i bound)))) own (le-self _ number))
-    ]
+  -- so of two shifts of spectra with equal sums, and no NaN, the less negative never wins
+  pub equal-sums : Laid n bins → (xs : List Float) (i j : ℕ) → i < j → j < 2 * bound + 1
+      → let sum : ℤ → Float = sumAt n bins (binRatios n xs) in
+      sum (minus i bound) ≡ sum (minus j bound) → isNan (sum (minus i bound)) ≡ false
+      → bestShift n bins bound (binRatios n xs) .shift ≡ minus j bound → ⊥
+  unfolding bestShift
+  equal-sums laid xs i j l h same number won =
+      let sum : ℤ → Float = sumAt n bins (binRatios n xs) in
+      elim (found-kind sum bound) [
+        | inl start ↦
+            found-most sum bound i (omega arith)
+            (subst (λ w. T (lt (w .sum) (sum (minus i bound)))) (sym start) (sum-above n bins laid _ (minus i bound) (ratios-no-minus n xs) number))
+        | inr p ↦
+            let own : sum (minus i bound) ≡ bestShift n bins bound (binRatios n xs) .sum = same ∙ sym (p .1 ∙ ap sum won) in
+            found-first sum bound i j l won (p .0) (subst (λ x. T (le x (sum (minus i bound)))) own (le-self _ number))
+      ]
 
--- with every sum a NaN the answer stays where the search starts: shift 0 and `f32::MIN`
-pub all-nan : (mode : Mode) (bound : ℕ) (ratios : List Float)
-    → ((j : ℕ) → j < 2 * bound + 1 → isNan (sumAt (fftSize mode) (pattern mode) ratios (minus j bound)) ≡ true)
-    → bestShift mode bound ratios ≡ winner (pos 0) lowest
-unfolding bestShift
-all-nan mode bound ratios = found-nan (sumAt (fftSize mode) (pattern mode) ratios) bound
+  -- with every sum a NaN the answer stays where the search starts: shift 0 and `f32::MIN`
+  pub all-nan : (ratios : List Float) → ((j : ℕ) → j < 2 * bound + 1 → isNan (sumAt n bins ratios (minus j bound)) ≡ true)
+      → bestShift n bins bound ratios ≡ winner (pos 0) lowest
+  unfolding bestShift
+  all-nan ratios = found-nan (sumAt n bins ratios) bound
+
+-- ---- the answer's number
+pub shift-number : (mode : ModeNumber) (xs : List Float) (bound room : ℕ)
+    → shiftNumber (shiftAnswer mode xs bound room) ≡ shiftCode mode (length xs) room bound
+unfolding shiftAnswer shiftCode
+shift-number Unknown xs bound room = refl
+shift-number (Known m) xs bound room = by (shiftCode (Known m) (length xs) room bound) _
+  where
+    by : (code : ℕ) (found : FoundShift) → shiftNumber (cond (eqb code 0) (Found found) (Refused code)) ≡ code
+    by code found = pick (eqb code 0) (eqb→eq code 0)
+      where
+        pick : (b : Bool) → (T b → code ≡ 0) → shiftNumber (cond b (Found found) (Refused code)) ≡ code
+        pick true z = sym (z tt)
+        pick false z = refl
 
 -- ---- the pattern
 abbrev pub patternBins : Mode → ℕ

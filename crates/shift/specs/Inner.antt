@@ -3,11 +3,10 @@
 use Prim.Native.Nat.{ℕ, _+_, _*_, _%_, _<_, _≤_}
 use mathlib.Core.List.{List, map}
 use mathlib.Core.Path.{_≡_}
-use lib.IntN.{pos}
 use lib.ListN.{getD, length}
 use lib.Ieee.{Float, nan, binary32, minus}
 use lib.Seq.{sets}
-use Rattle.ieee.specs.Constants.{minusZero, lowest}
+use Rattle.ieee.specs.Constants.{minusZero}
 use Rattle.ieee.specs.Sums.{total}
 use Rattle.params.specs.declared.Mode.{Mode}
 use Rattle.params.specs.declared.SegmentKind.the-variants.{Coherent}
@@ -15,7 +14,7 @@ use Rattle.params.specs.Params.{carriersPerSegment}
 use Rattle.tables.specs.Places.{ac1Of}
 use Rattle.ofdm.specs.Band.{placeOf, binOf}
 use Rattle.shift.specs.declared.Best.{Best}
-use Rattle.shift.specs.Shift.{sumAt, winner, searched, shifts}
+use Rattle.shift.specs.Shift.{winner, bestShift}
 
 -- ---- the pattern: bins of a segment's AC1 carriers
 unfoldable pub segmentBins : Mode → ℕ → List ℕ
@@ -47,6 +46,6 @@ pub record Bounded (n bound : ℕ) : Type 0 where
   pub within : bound ≤ n
 
 -- r is the winner, its shift counted from -bound
-pub record Found (bins : List ℕ) (ratios : List Float) (bound : ℕ) (r : Best) : Type 0 where
+pub record BestPlace (bins : List ℕ) (ratios : List Float) (bound : ℕ) (r : Best) : Type 0 where
   pub inside : r .at ≤ 2 * bound
-  pub wins : winner (minus (r .at) bound) (r .sum) ≡ searched (sumAt (length ratios) bins ratios) (winner (pos 0) lowest) (shifts bound)
+  pub wins : winner (minus (r .at) bound) (r .sum) ≡ bestShift (length ratios) bins bound ratios

@@ -1,4 +1,5 @@
 pub mod Shift
+pub mod Moves
 pub mod Inner
 pub mod MovedBins
 pub mod Searches

@@ -1,6 +1,6 @@
--- The shift of a moved capture. Where every bin is moved round by s, a shift z + s finds at the pattern's bins what z found before; so if the
--- winner beat every other shift of the range widened by the move, by divided scores, and its moved shift stays in range, the moved
--- capture's winner is the old one moved by s, with the same sum.
+-- The shift of a moved capture, for any list of bins among n. Where every bin is moved round by s, a shift z + s finds at the list's bins what z
+-- found before; so if the winner beat every other shift of the range widened by the move, by divided scores, and its moved shift stays in range,
+-- the moved capture's winner is the old one moved by s, with the same sum.
 -- Assumes nothing.
 use Prim.Native.Nat.{ℕ, zero, suc, _+_, _-_, _≤_, _<_}
 use mathlib.Core.Bool.{Bool, true, false, not, cond}
@@ -21,83 +21,33 @@ use Rattle.params.specs.declared.Mode.{Mode}
 use Rattle.params.specs.declared.Mode.the-variants.{M1, M2, M3}
 use Rattle.params.specs.Params.{fftSize}
 use Rattle.params.specs.Laws.{sized}
-use Rattle.ratio.specs.Ratio.{ratios}
+use Rattle.ratio.specs.Ratio.{binRatios}
 use Rattle.ratio.specs.NoMinus.{ratios-sign}
 use Rattle.shift.specs.Shift.{pattern, patternCarriers, movedBin, sumAt, scoreOf, winner, searched, shifts, bestShift}
+use Rattle.shift.specs.Moves.{InRange, scoreAt, BeatsAll, MovedRound}
 use Rattle.shift.specs.MovedBins.{moved-twice, moved-below}
 use Rattle.shift.specs.Searches.{found-inside, found-greatest}
 
--- from -range to range
-abbrev pub InRange : ℕ → ℤ → Type 0
-InRange range z = natAbs z ≤ range
+-- there are bins to move among, and a sum may be divided by the number of those laid over them
+pub record Laid (n : ℕ) (bins : List ℕ) : Type 0 where
+  pub some : 0 < n
+  pub counted : T (positive (ofInt binary32 (pos (length bins))))
 
--- a shift's score: the sum at the pattern's bins, divided by their number
-abbrev pub scoreAt : Mode → List Float → ℤ → Float
-scoreAt mode old z = scoreOf (pattern mode) (sumAt (fftSize mode) (pattern mode) old z)
+pattern-counted : (mode : Mode) → T (positive (ofInt binary32 (pos (length (pattern mode)))))
+unfolding pattern patternCarriers ofInt
+pattern-counted M1 = tt
+pattern-counted M2 = tt
+pattern-counted M3 = tt
 
--- z beats every other shift of the range; a NaN neither beats nor is beaten
-abbrev pub BeatsAll : Mode → List Float → ℕ → ℤ → Type 0
-BeatsAll mode old range z = (y : ℤ) → InRange range y → (y ≡ z → ⊥) → T (lt (scoreAt mode old y) (scoreAt mode old z))
-
--- new are the n ratios old, moved round by s
-abbrev pub MovedRound : ℕ → ℤ → List Float → List Float → Type 0
-MovedRound n s old new = (b : ℕ) → b < n → getD new (movedBin n b s) nan ≡ getD old b nan
+pub pattern-laid : (mode : Mode) → Laid (fftSize mode) (pattern mode)
+pattern-laid mode = record { some = omega (arith, sized mode .band, sized mode .within); counted = pattern-counted mode }
 
 -- no ratio has a minus sign, so `f32::MIN` loses to every sum that is no NaN
 abbrev pub NoMinus : ℕ → List Float → Type 0
 NoMinus n old = (b : ℕ) → b < n → negative (getD old b nan) ≡ false
 
-pub ratios-no-minus : (n : ℕ) (xs : List Float) → NoMinus n (ratios n xs)
+pub ratios-no-minus : (n : ℕ) (xs : List Float) → NoMinus n (binRatios n xs)
 ratios-no-minus n xs b B = ratios-sign n xs b B
-
-some-bins : (mode : Mode) → 0 < fftSize mode
-some-bins mode = omega (arith, sized mode .band, sized mode .within)
-
--- a shift of the moved ratios finds what the shift before the move found
-pub moved-sum : (mode : Mode) (s z : ℤ) (old new : List Float) → MovedRound (fftSize mode) s old new
-    → sumAt (fftSize mode) (pattern mode) new (z +ℤ s) ≡ sumAt (fftSize mode) (pattern mode) old z
-unfolding sumAt
-moved-sum mode s z old new m =
-    let n = fftSize mode in
-    ap (total binary32 minusZero) (map-congr-left {l = pattern mode} (λ b i.
-    ap (λ (k : ℕ). getD new k nan) (moved-twice n b z s (some-bins mode)) ∙ m (movedBin n b z) (moved-below n b z (some-bins mode))))
-
--- not moved, the winner is the same
-pub same-winner : (mode : Mode) (bound : ℕ) (old new : List Float) → MovedRound (fftSize mode) (pos 0) old new → bestShift mode bound new ≡ bestShift mode bound old
-unfolding bestShift
-same-winner mode bound old new m = λ i. searched (λ z. same z i) (winner (pos 0) lowest) (shifts bound)
-  where
-    same : (z : ℤ) → sumAt (fftSize mode) (pattern mode) new z ≡ sumAt (fftSize mode) (pattern mode) old z
-    same z = ap (sumAt (fftSize mode) (pattern mode) new) (sym (+ℤ-idr z)) ∙ moved-sum mode (pos 0) z old new m
-
--- ---- sums
--- the pattern's length is above zero as a float
-length-positive : (mode : Mode) → T (positive (ofInt binary32 (pos (length (pattern mode)))))
-unfolding pattern patternCarriers ofInt
-length-positive M1 = tt
-length-positive M2 = tt
-length-positive M3 = tt
-
-sum-beats : (mode : Mode) (old : List Float) (y z : ℤ) → T (lt (scoreAt mode old y) (scoreAt mode old z))
-    → T (lt (sumAt (fftSize mode) (pattern mode) old y) (sumAt (fftSize mode) (pattern mode) old z))
-unfolding scoreOf
-sum-beats mode old y z h = quotient-beats binary32 _ _ (ofInt binary32 (pos (length (pattern mode)))) (length-positive mode) h
-
--- `f32::MIN` loses to a total from -0.0 of values without a minus sign, unless that is a NaN
-total-above : {A : Type 0} (g : A → Float) (bs : List A) → ((b : A) → negative (g b) ≡ false)
-    → isNan (total binary32 minusZero (map g bs)) ≡ false → T (lt lowest (total binary32 minusZero (map g bs)))
-unfolding total lt
-total-above g [] p h = rw (minus-zero-is, lowest-is) tt
-total-above g (b ∷ bs) p h =
-    lowest-loses (total binary32 (add binary32 minusZero (g b)) (map g bs)) h
-    (total-sign binary32 _ g bs (rw minus-zero-is (zero-plus-sign binary32 true (pos 0) (g b) (p b))) p)
-
-pub sum-above : (mode : Mode) (old : List Float) (z : ℤ) → NoMinus (fftSize mode) old → isNan (sumAt (fftSize mode) (pattern mode) old z) ≡ false
-    → T (lt lowest (sumAt (fftSize mode) (pattern mode) old z))
-unfolding sumAt
-sum-above mode old z g h =
-    let n = fftSize mode in
-    total-above (λ b. getD old (movedBin n b z) nan) (pattern mode) (λ b. g (movedBin n b z) (moved-below n b z (some-bins mode))) h
 
 -- ---- shifts
 -- there is another shift than z, at most one away from 0
@@ -137,52 +87,90 @@ neg-size (pos zero) = refl
 neg-size (pos (suc k)) = refl
 neg-size (negsuc k) = refl
 
--- ---- a true move: the winner before it beat some other shift, so its sum is no NaN
-winner-inside : (mode : Mode) (bound : ℕ) (old : List Float) → InRange bound (bestShift mode bound old .shift)
-unfolding bestShift
-winner-inside mode bound old = found-inside (sumAt (fftSize mode) (pattern mode) old) bound
+-- ---- sums
+-- `f32::MIN` loses to a total from -0.0 of values without a minus sign, unless that is a NaN
+total-above : {A : Type 0} (g : A → Float) (bs : List A) → ((b : A) → negative (g b) ≡ false)
+    → isNan (total binary32 minusZero (map g bs)) ≡ false → T (lt lowest (total binary32 minusZero (map g bs)))
+unfolding total lt
+total-above g [] p h = rw (minus-zero-is, lowest-is) tt
+total-above g (b ∷ bs) p h =
+    lowest-loses (total binary32 (add binary32 minusZero (g b)) (map g bs)) h
+    (total-sign binary32 _ g bs (rw minus-zero-is (zero-plus-sign binary32 true (pos 0) (g b) (p b))) p)
 
-module _ (mode : Mode) (bound : ℕ) (s : ℤ) (old new : List Float) (g : NoMinus (fftSize mode) old) (m : MovedRound (fftSize mode) s old new) where
-  abbrev oldShift : ℤ
-  oldShift = bestShift mode bound old .shift
+module _ (n : ℕ) (bins : List ℕ) (laid : Laid n bins) where
+  pub sum-above : (old : List Float) (z : ℤ) → NoMinus n old → isNan (sumAt n bins old z) ≡ false → T (lt lowest (sumAt n bins old z))
+  unfolding sumAt
+  sum-above old z g h = total-above (λ b. getD old (movedBin n b z) nan) bins (λ b. g (movedBin n b z) (moved-below n b z (laid .some))) h
 
-  abbrev before : ℤ → Float
-  before y = sumAt (fftSize mode) (pattern mode) old y
+  -- what beats by its score beats by its sum
+  sum-beats : (old : List Float) (y z : ℤ) → T (lt (scoreAt n bins old y) (scoreAt n bins old z)) → T (lt (sumAt n bins old y) (sumAt n bins old z))
+  unfolding scoreOf
+  sum-beats old y z h = quotient-beats binary32 _ _ (ofInt binary32 (pos (length bins))) (laid .counted) h
 
-  abbrev after : ℤ → Float
-  after y = sumAt (fftSize mode) (pattern mode) new y
+  -- a shift of the moved ratios finds what the shift before the move found
+  pub moved-sum : (s z : ℤ) (old new : List Float) → MovedRound n s old new → sumAt n bins new (z +ℤ s) ≡ sumAt n bins old z
+  unfolding sumAt
+  moved-sum s z old new m =
+      ap (total binary32 minusZero) (map-congr-left {l = bins} (λ b i.
+      ap (λ (k : ℕ). getD new k nan) (moved-twice n b z s (laid .some)) ∙ m (movedBin n b z) (moved-below n b z (laid .some))))
 
-  same-sum : (y : ℤ) → after y ≡ before (y -ℤ s)
-  same-sum y = ap after (sym (-ℤ-+ℤ-cancel y s)) ∙ moved-sum mode s (y -ℤ s) old new m
+  -- not moved, the winner is the same
+  pub same-winner : (bound : ℕ) (old new : List Float) → MovedRound n (pos 0) old new → bestShift n bins bound new ≡ bestShift n bins bound old
+  unfolding bestShift
+  same-winner bound old new m = λ i. searched (λ z. same z i) (winner (pos 0) lowest) (shifts bound)
+    where
+      same : (z : ℤ) → sumAt n bins new z ≡ sumAt n bins old z
+      same z = ap (sumAt n bins new) (sym (+ℤ-idr z)) ∙ moved-sum (pos 0) z old new m
 
-  module _ (beats : BeatsAll mode old (bound + natAbs s) oldShift) (inside : InRange bound (oldShift +ℤ s)) (away : 0 < natAbs s) where
-    greater : (y : ℤ) → InRange (bound + natAbs s) y → (y ≡ oldShift → ⊥) → T (lt (before y) (before oldShift))
-    greater y i e = sum-beats mode old y oldShift (beats y i e)
+  -- ---- a true move: the winner before it beat some other shift, so its sum is no NaN
+  winner-inside : (bound : ℕ) (old : List Float) → InRange bound (bestShift n bins bound old .shift)
+  unfolding bestShift
+  winner-inside bound old = found-inside (sumAt n bins old) bound
 
-    above-lowest : T (lt lowest (before oldShift))
-    above-lowest = sum-above mode old oldShift g (greater-number _ _ (greater (other oldShift) (omega (arith, other-near oldShift)) (other-is-not oldShift)))
+  module _ (bound : ℕ) (s : ℤ) (old new : List Float) (g : NoMinus n old) (m : MovedRound n s old new) where
+    abbrev oldShift : ℤ
+    oldShift = bestShift n bins bound old .shift
 
-    -- the winner's sum is the sum at its shift
-    won-before : bestShift mode bound old .sum ≡ before oldShift
-    unfolding bestShift
-    won-before = ap (λ w. w .sum) (found-greatest before bound oldShift (winner-inside mode bound old) (λ y i e. greater y (omega arith) e) above-lowest)
+    abbrev before : ℤ → Float
+    before y = sumAt n bins old y
 
-    -- a shift y of the moved ratios was y - s before, in the widened range
-    beaten : (y : ℤ) → InRange bound y → (y ≡ oldShift +ℤ s → ⊥) → T (lt (after y) (before oldShift))
-    beaten y i e =
-        rw (same-sum y) (greater (y -ℤ s) (omega (arith, sum-size y (negℤ s), neg-size s)) (λ q. e (sym (-ℤ-+ℤ-cancel y s) ∙ ap (λ x. x +ℤ s) q)))
+    abbrev after : ℤ → Float
+    after y = sumAt n bins new y
 
-    won-after : bestShift mode bound new ≡ winner (oldShift +ℤ s) (bestShift mode bound old .sum)
-    unfolding bestShift
-    won-after =
-        let here : after (oldShift +ℤ s) ≡ before oldShift = moved-sum mode s oldShift old new m in
-        found-greatest after bound (oldShift +ℤ s) inside (λ y i e. rw here (beaten y i e)) (rw here above-lowest)
-        ∙ ap (winner (oldShift +ℤ s)) (here ∙ sym won-before)
+    same-sum : (y : ℤ) → after y ≡ before (y -ℤ s)
+    same-sum y = ap after (sym (-ℤ-+ℤ-cancel y s)) ∙ moved-sum s (y -ℤ s) old new m
 
-pub moved-winner : (mode : Mode) (bound : ℕ) (s : ℤ) (old new : List Float) → NoMinus (fftSize mode) old → MovedRound (fftSize mode) s old new
-    → BeatsAll mode old (bound + natAbs s) (bestShift mode bound old .shift) → InRange bound (bestShift mode bound old .shift +ℤ s)
-    → bestShift mode bound new ≡ winner (bestShift mode bound old .shift +ℤ s) (bestShift mode bound old .sum)
-moved-winner mode bound (pos zero) old new g m beats inside =
-    same-winner mode bound old new m ∙ ap (λ z. winner z (bestShift mode bound old .sum)) (sym (+ℤ-idr (bestShift mode bound old .shift)))
-moved-winner mode bound (pos (suc k)) old new g m beats inside = won-after mode bound (pos (suc k)) old new g m beats inside (omega arith)
-moved-winner mode bound (negsuc k) old new g m beats inside = won-after mode bound (negsuc k) old new g m beats inside (omega arith)
+    module _ (beats : BeatsAll n bins old (bound + natAbs s) oldShift) (inside : InRange bound (oldShift +ℤ s)) (away : 0 < natAbs s) where
+      greater : (y : ℤ) → InRange (bound + natAbs s) y → (y ≡ oldShift → ⊥) → T (lt (before y) (before oldShift))
+      greater y i e = sum-beats old y oldShift (beats y i e)
+
+      above-lowest : T (lt lowest (before oldShift))
+      above-lowest =
+          sum-above old oldShift g (greater-number _ _ (greater (other oldShift) (omega (arith, other-near oldShift)) (other-is-not oldShift)))
+
+      -- the winner's sum is the sum at its shift
+      won-before : bestShift n bins bound old .sum ≡ before oldShift
+      unfolding bestShift
+      won-before =
+          ap (λ w. w .sum) (found-greatest before bound oldShift (winner-inside bound old) (λ y i e. greater y (omega arith) e) above-lowest)
+
+      -- a shift y of the moved ratios was y - s before, in the widened range
+      beaten : (y : ℤ) → InRange bound y → (y ≡ oldShift +ℤ s → ⊥) → T (lt (after y) (before oldShift))
+      beaten y i e =
+          rw (same-sum y)
+          (greater (y -ℤ s) (omega (arith, sum-size y (negℤ s), neg-size s)) (λ q. e (sym (-ℤ-+ℤ-cancel y s) ∙ ap (λ x. x +ℤ s) q)))
+
+      won-after : bestShift n bins bound new ≡ winner (oldShift +ℤ s) (bestShift n bins bound old .sum)
+      unfolding bestShift
+      won-after =
+          let here : after (oldShift +ℤ s) ≡ before oldShift = moved-sum s oldShift old new m in
+          found-greatest after bound (oldShift +ℤ s) inside (λ y i e. rw here (beaten y i e)) (rw here above-lowest)
+          ∙ ap (winner (oldShift +ℤ s)) (here ∙ sym won-before)
+
+  pub moved-winner : (bound : ℕ) (s : ℤ) (old new : List Float) → NoMinus n old → MovedRound n s old new
+      → BeatsAll n bins old (bound + natAbs s) (bestShift n bins bound old .shift) → InRange bound (bestShift n bins bound old .shift +ℤ s)
+      → bestShift n bins bound new ≡ winner (bestShift n bins bound old .shift +ℤ s) (bestShift n bins bound old .sum)
+  moved-winner bound (pos zero) old new g m beats inside =
+      same-winner bound old new m ∙ ap (λ z. winner z (bestShift n bins bound old .sum)) (sym (+ℤ-idr (bestShift n bins bound old .shift)))
+  moved-winner bound (pos (suc k)) old new g m beats inside = won-after bound (pos (suc k)) old new g m beats inside (omega arith)
+  moved-winner bound (negsuc k) old new g m beats inside = won-after bound (negsuc k) old new g m beats inside (omega arith)

@@ -6,7 +6,7 @@ ghost use Prim.Native.Nat.{_≤_};
 ghost use lib.ListN.{length};
 ghost use Rattle.params.specs.Params.{modeFrom};
 ghost use Rattle.shift.specs.Shift.{pattern, Shifted};
-ghost use Rattle.shift.specs.Inner.{segmentBins, Room, Put, sumUp, Movable, Bounded, Found};
+ghost use Rattle.shift.specs.Inner.{segmentBins, Room, Put, sumUp, Movable, Bounded, BestPlace};
 use ofdm::BandCarrier;
 use ofdm::Segment;
 use ofdm::SegmentPlace;
@@ -14,9 +14,14 @@ use params::Mode;
 use params::ModeNumber;
 use params::SegmentKind;
 
+// A shift, and its score: the sum of the pattern's ratios divided by their number.
+pub struct FoundShift {
+    pub shift: i64,
+    pub score: f32,
+}
+
 pub enum ShiftAnswer {
-    // The shift, and its score: the sum of the pattern's ratios divided by their number.
-    Shift(i64, f32),
+    Found(FoundShift),
     Refused(u8),
 }
 
@@ -88,7 +93,7 @@ fn pattern_sum(bins: &[u32], ratios: &[f32], up: usize) -> f32
 // The best place among the shifts from -bound to bound: only a greater sum replaces.
 fn search(bins: &[u32], ratios: &[f32], bound: usize) -> Best
     requires { ⌜ Bounded (length (now ratios)) bound ⌝ }
-    ensures { λ r. ⌜ Found (now (bins .entry)) (now (ratios .entry)) bound r ⌝ }
+    ensures { λ r. ⌜ BestPlace (now (bins .entry)) (now (ratios .entry)) bound r ⌝ }
 {
     let n = ratios.len();
     let mut best = Best {
@@ -129,5 +134,6 @@ pub fn integer_cfo(mode: u8, spectra: &[f32], bound: usize, ratios: &mut [f32]) 
     let count = put_pattern(m, &mut buffer);
     let best = search(&buffer[..count], ratios, bound);
     let shift = best.at as i64 - bound as i64;
-    ShiftAnswer::Shift(shift, best.sum / count as f32)
+    let score = best.sum / count as f32;
+    ShiftAnswer::Found(FoundShift { shift, score })
 }

@@ -7,7 +7,7 @@ use lib.ListN.{length, drop, length-set}
 use Rattle.lists.specs.Lists.{upTo}
 use Rattle.lists.specs.Fill.{fill-again, fill-done}
 use Rattle.spectra.specs.Spectra.{binPairs}
-use Rattle.ratio.specs.Ratio.{ratioOf, ratios}
+use Rattle.ratio.specs.Ratio.{ratioOf, binRatios}
 use Rattle.ratio.proofs.Bins.{some-bins, one-spectrum, held, ratio-of}
 use Rattle.ratio.proofs.Eights.{filled-own}
 use borrow.Author.Needs.{needs}
@@ -73,7 +73,7 @@ same-length : tie.Need-same-length Inv-loop μ-loop
 same-length c = c .before .loop .inv .2 ∙ sym (c .before .before .before .before .before .before .before .before .pre .bins)
 
 returns : tie.Need-returns Inv-loop μ-loop
-unfolding ratios
+unfolding binRatios
 returns c =
     let l = c .before in
     fill-done _ _ _ (l .before .before .before .before .before .before .before .args .len) (l .loop .b) (l .loop .inv .3) (omega (arith, l .loop .inv .1)) (omega arith)

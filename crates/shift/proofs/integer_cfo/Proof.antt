@@ -83,8 +83,8 @@ sub-shift c =
     let f = k .before .before .before .before .before in
     difference-fits _ _ (shift-small (f .before .before .m .given .0 .0) _ _ _ (f .fft-size .ensures) (k .before .before .if2 .left) (c .before .search .ensures .inside))
 
-int-to-float-t28 : tie.Need-int-to-float-t28
-int-to-float-t28 c =
+int-to-float-score : tie.Need-int-to-float-score
+int-to-float-score c =
     let p = c .before .before .before .before .before .before in
     held-exactly (pos _) (omega (arith, front-few _ _ _ _ (p .put-pattern .ensures) (p .before .before .pattern-buffer .ensures)))
 
@@ -130,6 +130,6 @@ integer-cfo-spec =
     cast-shift
     cast-shift-2
     sub-shift
-    int-to-float-t28
+    int-to-float-score
     same-length
     returns-4)
