@@ -3,7 +3,7 @@
 use Prim.Native.Nat.{ℕ, _+_, _*_, _%_, _≤_, _<_}
 use mathlib.Core.Bool.{true, false}
 use mathlib.Core.List.{List}
-use mathlib.Core.Path.{_≡_, refl, ap}
+use mathlib.Core.Path.{_≡_, refl, ap, _∙_}
 use borrow.Author.Tests.{le-leb, lt-leb, eq-eqb, ne-eqb}
 use lib.Dec.{eqb}
 use lib.ListN.{length}
@@ -12,38 +12,47 @@ use Rattle.ieee.specs.Constants.{plusZero}
 use Rattle.lists.specs.Lists.{upTo}
 use Rattle.lists.specs.Tests.{allIn}
 use Rattle.guess.specs.declared.GuardSearch.{GuardSearch}
-use Rattle.guess.specs.Guess.{pairsIn, guessed, guessCode, guessAnswer, scratchLeaves, Searched}
-use Rattle.guess.specs.Samples.{isMode, isGuard, samplesNeeded, samplesCode, samplesAnswer}
+use Rattle.guess.specs.declared.SamplesNeeded.{SamplesNeeded}
+use Rattle.guess.specs.Guess.{pairsIn, guessed, guessCode, guessAnswer, searchNumber, scratchLeaves, Searched}
+use Rattle.guess.specs.Samples.{isMode, isGuard, samplesNeeded, samplesCode, samplesAnswer, samplesNumber, SamplesTold}
+use Rattle.guess.specs.Facts.{samples-number, search-number}
 use Rattle.guess.specs.declared.SamplesNeeded.the-variants as needed
 use Rattle.guess.specs.declared.GuardSearch.the-variants as search
 
 -- ---- of `samples_needed`
 module _ (modes guards : List ℕ) (symbols : ℕ) where
-  pub needs-mode : allIn isMode modes ≡ false → needed.Refused 1 ≡ samplesAnswer modes guards symbols
-  unfolding samplesAnswer samplesCode
-  needs-mode m = rw m
+  told : (r : SamplesNeeded) → r ≡ samplesAnswer modes guards symbols → SamplesTold modes guards symbols r
+  told r e = record { number = ap samplesNumber e ∙ samples-number modes guards symbols; answer = e }
 
-  pub needs-guard : allIn isMode modes ≡ true → allIn isGuard guards ≡ false → needed.Refused 9 ≡ samplesAnswer modes guards symbols
+  pub needs-mode : allIn isMode modes ≡ false → SamplesTold modes guards symbols (needed.Refused 1)
   unfolding samplesAnswer samplesCode
-  needs-guard m g = rw (m, g)
+  needs-mode m = told _ (rw m)
 
-  pub needs-fewer : allIn isMode modes ≡ true → allIn isGuard guards ≡ true → 64 < symbols → needed.Refused 10 ≡ samplesAnswer modes guards symbols
+  pub needs-guard : allIn isMode modes ≡ true → allIn isGuard guards ≡ false → SamplesTold modes guards symbols (needed.Refused 9)
   unfolding samplesAnswer samplesCode
-  needs-fewer m g h = rw (m, g, lt-leb symbols 64 h)
+  needs-guard m g = told _ (rw (m, g))
+
+  pub needs-fewer : allIn isMode modes ≡ true → allIn isGuard guards ≡ true → 64 < symbols → SamplesTold modes guards symbols (needed.Refused 10)
+  unfolding samplesAnswer samplesCode
+  needs-fewer m g h = told _ (rw (m, g, lt-leb symbols 64 h))
 
   pub needs : allIn isMode modes ≡ true → allIn isGuard guards ≡ true → symbols ≤ 64 → (n : ℕ) → n ≡ samplesNeeded modes guards symbols
-      → needed.Samples n ≡ samplesAnswer modes guards symbols
+      → SamplesTold modes guards symbols (needed.Samples n)
   unfolding samplesAnswer samplesCode
-  needs m g h n e = rw (m, g, le-leb symbols 64 h) (ap needed.Samples e)
+  needs m g h n e = told _ (rw (m, g, le-leb symbols 64 h) (ap needed.Samples e))
 
 -- ---- of `detect_mode`
 module _ (xs : List Float) (modes guards : List ℕ) (old : List Float) where
   abbrev code : ℕ
   code = guessCode modes guards (length xs) (length old)
 
+  answered : (r : GuardSearch) (now : List Float) → r ≡ guessAnswer xs modes guards (length old) → now ≡ scratchLeaves (length xs) modes guards old
+      → Searched xs modes guards old r now
+  answered r now e l = record { number = ap searchNumber e ∙ search-number xs modes guards (length old); answer = e; leaves = l }
+
   refused : (k : ℕ) → eqb k 0 ≡ false → code ≡ k → Searched xs modes guards old (search.Refused k) old
   unfolding guessAnswer scratchLeaves
-  refused k n e = record { answer = rw (e, n); leaves = rw (e, n) }
+  refused k n e = answered _ _ (rw (e, n)) (rw (e, n))
 
   pub no-mode : allIn isMode modes ≡ false → Searched xs modes guards old (search.Refused 1) old
   unfolding guessCode
@@ -77,4 +86,4 @@ module _ (xs : List Float) (modes guards : List ℕ) (old : List Float) where
             pub searched : (a : GuardSearch) (now : List Float) → a ≡ guessed xs modes guards → now ≡ upTo (λ i. plusZero binary64) (length old)
                 → Searched xs modes guards old a now
             unfolding guessAnswer scratchLeaves
-            searched a now e f = record { answer = rw accepted e; leaves = rw accepted f }
+            searched a now e f = answered a now (rw accepted e) (rw accepted f)

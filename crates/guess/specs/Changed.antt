@@ -1,63 +1,40 @@
--- The guess does not hang on the phase or the gain at which the recorder ran. A change of sign or a quarter turn of every sample changes
--- nothing; a gain by a power of two, on samples with whole-number parts, keeps whether something is found, mode, guard, offset and metric, bit
--- for bit, and multiplies both parts of the correlation by the gain twice. Without a gain this holds for all samples.
+-- The guess does not depend on the phase or the gain at which the recorder ran: samples, which are spectra of one pair, that are negated, turned by a
+-- quarter and amplified by a power of two (`Changed` and `Allowed` of spectra/specs/Changes) find the same, but for both parts of the
+-- correlation, which are multiplied by the gain twice (`louder`).
 -- Assumes nothing.
 use Prim.Native.Nat.{ℕ, zero, suc, _+_, _-_, _*_, _≤_, _<_}
 use mathlib.Core.Bool.{Bool, true, false, cond}
 use mathlib.Core.List.{List, [], _∷_}
-use mathlib.Core.Logic.{_⊎_, inl, inr}
+use mathlib.Core.Logic.{inl, inr}
 use mathlib.Core.Path.{_≡_, refl, sym, ap, subst, _∙_}
 use native.Mathlib.Omega.{arith}
-use lib.Dec.{leb, ltb}
+use lib.Dec.{leb, ltb, lit<}
 use lib.ListN.{length}
 use lib.Ieee.{Float, binary32, binary64, add, mul, div, lt, le}
 use Rattle.lists.specs.Lists.{range}
 use Rattle.lists.specs.Tests.{allIn, both-left, both-right}
 use Rattle.ieee.specs.Constants.{plusZero, plus-zero-is, half}
-use Rattle.ieee.specs.Levels.{Scaled, two}
+use Rattle.ieee.specs.Levels.{Scaled}
 use Rattle.ieee.specs.Times.{Times, zero-times, le-times}
 use Rattle.ieee.specs.Gain.{times-of, scaled-product}
 use Rattle.complex.specs.Complex.{Pair, product, conjugate, squaredSize, norm64}
-use Rattle.complex.specs.Changes.{turned, negated}
+use Rattle.complex.specs.Changes.{turned, negated, turnIf, gainBy, most, WholePair, amplified, Change, ofSamples}
 use Rattle.complex.specs.Turns.{turned-product, both-negated-product, turned-size, negated-size}
 use Rattle.complex.specs.Gains.{BothScaled}
-use Rattle.complex.specs.Changes.{most, WholePair, amplified}
 use Rattle.complex.specs.Bounds.{partLevel, stepLevel, energyLevel, guessLevel}
 use Rattle.complex.specs.Bounds.{part-gain, step-gain, energy-gain, metric-gain, correlation-roomy}
 use Rattle.spectra.specs.Spectra.{pairAt}
-use Rattle.complex.specs.Changes.{turnIf, gainBy}
+use Rattle.spectra.specs.Changes.{Changed, Wholes, Allowed}
 use Rattle.guess.specs.Samples.{isMode, fftOf, guardOf, symbolOf}
 use Rattle.guess.specs.Guess.{pairsIn, lagsIn, lagProduct, lagEnergy, correlationAt, energyAt, guessAt}
 use Rattle.guess.specs.Guess.{beats, offered, scan, triedGuard, triedMode, guessed}
+use Rattle.guess.specs.Louder.{twiceGained, louderGuess, louder}
 use Rattle.guess.specs.Windows.{correlation-same, energy-same, correlation-louder, energy-louder, correlation-fits}
 use Rattle.guess.specs.declared.ModeGuess.{ModeGuess}
 use Rattle.guess.specs.declared.GuardSearch.{GuardSearch}
 use Rattle.guess.specs.declared.GuardSearch.the-variants.{Found, Nothing, Refused}
 
--- ys is xs, every pair negated or none, turned by a quarter or none, and amplified by 2 ^ gain
-pub record Taken (negates turns : Bool) (gain : ℕ) (xs ys : List Float) : Type 0 where
-  pub long : length ys ≡ length xs
-  pub pairs : (i : ℕ) → i < pairsIn (length xs) → pairAt ys i ≡ negated negates (turnIf turns (gainBy gain (pairAt xs i)))
-
--- the gain is 1, or it is at most 256 and all parts are whole numbers from -32,768 to 32,768
-abbrev pub AllowedGain : ℕ → List Float → Type 0
-AllowedGain gain xs = (gain ≡ 0) ⊎ ((gain ≤ most) × ((i : ℕ) → i < pairsIn (length xs) → WholePair (pairAt xs i)))
-
--- a part of the correlation, times the gain twice
-abbrev pub twiceGained : ℕ → Float → Float
-twiceGained zero x = x
-twiceGained (suc k) x = mul binary64 x (two (2 * suc k))
-
-abbrev pub louder : ℕ → GuardSearch → GuardSearch
-louder k (Found g) =
-    Found (record { mode = g .mode; guard = g .guard; offset = g .offset; metric = g .metric; re = twiceGained k (g .re); im = twiceGained k (g .im) })
-louder k Nothing = Nothing
-louder k (Refused code) = Refused code
-
 -- ---- a search goes the same way where every step of it does
-abbrev louderGuess : ℕ → ModeGuess → ModeGuess
-louderGuess k g = record { mode = g .mode; guard = g .guard; offset = g .offset; metric = g .metric; re = twiceGained k (g .re); im = twiceGained k (g .im) }
-
 louder-cond : (k : ℕ) (b : Bool) (x y : GuardSearch) → cond b (louder k x) (louder k y) ≡ louder k (cond b x y)
 louder-cond k true x y = refl
 louder-cond k false x y = refl
@@ -121,6 +98,25 @@ module _ (k : ℕ) (xs ys : List Float) (long : length ys ≡ length xs)
   unfolding guessed
   search-louder modes guards M = louder-scan k isMode (triedMode ys guards) (triedMode xs guards) modes Nothing M (λ b mode m. mode-louder guards b mode m)
 
+-- ---- samples are spectra of one pair
+-- what `ofSamples` makes of a change
+abbrev sampled : Bool → Bool → ℕ → Change
+sampled negates turns gain = record { negates = λ j. negates; turns = turns; gain = gain }
+
+-- ys is xs, changed
+abbrev ChangedSamples : Bool → Bool → ℕ → List Float → List Float → Type 0
+ChangedSamples negates turns gain xs ys = Changed (sampled negates turns gain) 1 (λ b. b) xs ys
+
+sample-number : (i : ℕ) → i * 1 + 0 ≡ i
+sample-number i = omega arith
+
+sample-changed : (negates turns : Bool) (gain : ℕ) (xs ys : List Float) → ChangedSamples negates turns gain xs ys → (i : ℕ) → i < pairsIn (length xs)
+    → pairAt ys i ≡ negated negates (turnIf turns (gainBy gain (pairAt xs i)))
+sample-changed negates turns gain xs ys h i I = rw (sample-number i) at (h .pairs i 0 I (lit< tt))
+
+sample-whole : (xs : List Float) → Wholes 1 xs → (i : ℕ) → i < pairsIn (length xs) → WholePair (pairAt xs i)
+sample-whole xs h i I = rw (sample-number i) at (h .pairs i 0 I (lit< tt))
+
 -- ---- two samples n apart: signs and turn cancel, and the gain stays
 turned-lag : (s t : Bool) (x y : Pair) → product binary32 (negated s (turnIf t x)) (conjugate (negated s (turnIf t y))) ≡ product binary32 x (conjugate y)
 turned-lag s true x y = both-negated-product binary32 s (turned x) (turned y) ∙ turned-product binary32 x y
@@ -140,12 +136,12 @@ first-in m n i h = omega arith
 second-in : (m n i : ℕ) → i < m - n → i + n < m
 second-in m n i h = omega arith
 
-module _ (negates turns : Bool) (gain : ℕ) (xs ys : List Float) (h : Taken negates turns gain xs ys) (n i : ℕ) (I : i < lagsIn n xs) where
+module _ (negates turns : Bool) (gain : ℕ) (xs ys : List Float) (h : ChangedSamples negates turns gain xs ys) (n i : ℕ) (I : i < lagsIn n xs) where
   p : pairAt ys i ≡ negated negates (turnIf turns (gainBy gain (pairAt xs i)))
-  p = h .pairs i (first-in (pairsIn (length xs)) n i I)
+  p = sample-changed negates turns gain xs ys h i (first-in (pairsIn (length xs)) n i I)
 
   q : pairAt ys (i + n) ≡ negated negates (turnIf turns (gainBy gain (pairAt xs (i + n))))
-  q = h .pairs (i + n) (second-in (pairsIn (length xs)) n i I)
+  q = sample-changed negates turns gain xs ys h (i + n) (second-in (pairsIn (length xs)) n i I)
 
   lag-product : lagProduct n ys i ≡ product binary32 (gainBy gain (pairAt xs i)) (conjugate (gainBy gain (pairAt xs (i + n))))
   lag-product = (λ j. product binary32 (p j) (conjugate (q j))) ∙ turned-lag negates turns (gainBy gain (pairAt xs i)) (gainBy gain (pairAt xs (i + n)))
@@ -163,7 +159,7 @@ unfolding guessAt
 guess-is k xs ys mode guard d m r i = λ j. record { mode = mode; guard = guard; offset = d; metric = m j; re = r j; im = i j }
 
 -- ---- without a gain all sums are the same
-module _ (negates turns : Bool) (xs ys : List Float) (h : Taken negates turns 0 xs ys) (mode guard d : ℕ) where
+module _ (negates turns : Bool) (xs ys : List Float) (h : ChangedSamples negates turns 0 xs ys) (mode guard d : ℕ) where
   turned-kept : Kept 0 xs ys mode guard d
   turned-kept =
       let c = correlation-same xs ys (h .long) mode guard d (λ i I. lag-product negates turns 0 xs ys h (fftOf mode) i I) in
@@ -182,16 +178,16 @@ at-zero-gain k x y h =
     (subst (λ (z : Float). Times (2 * k) z z) (sym (plus-zero-is binary64)) (zero-times (2 * k) false)))
 
 module _ (negates turns : Bool) (g : ℕ) (K : suc g ≤ most) (xs ys : List Float) (N : pairsIn (length xs) ≤ 1048576)
-    (w : (i : ℕ) → i < pairsIn (length xs) → WholePair (pairAt xs i)) (h : Taken negates turns (suc g) xs ys) where
+    (w : Wholes 1 xs) (h : ChangedSamples negates turns (suc g) xs ys) where
   abbrev k : ℕ
   k = suc g
 
   module _ (n i : ℕ) (I : i < lagsIn n xs) where
     a : BothScaled partLevel k (pairAt xs i) (amplified k (pairAt xs i))
-    a = part-gain k K (pairAt xs i) (w i (first-in (pairsIn (length xs)) n i I))
+    a = part-gain k K (pairAt xs i) (sample-whole xs w i (first-in (pairsIn (length xs)) n i I))
 
     b : BothScaled partLevel k (pairAt xs (i + n)) (amplified k (pairAt xs (i + n)))
-    b = part-gain k K (pairAt xs (i + n)) (w (i + n) (second-in (pairsIn (length xs)) n i I))
+    b = part-gain k K (pairAt xs (i + n)) (sample-whole xs w (i + n) (second-in (pairsIn (length xs)) n i I))
 
     gained-product : BothScaled stepLevel k (lagProduct n xs i) (lagProduct n ys i)
     gained-product =
@@ -215,12 +211,18 @@ module _ (negates turns : Bool) (g : ℕ) (K : suc g ≤ most) (xs ys : List Flo
             (scaled-product binary64 most k (guessLevel stepLevel) _ _ K correlation-roomy (p .1) (q .1) (c .im));
       }
 
-pub changed-guess : (negates turns : Bool) (gain : ℕ) (xs ys : List Float) (modes guards : List ℕ) → allIn isMode modes ≡ true → pairsIn (length xs) ≤ 1048576
-    → AllowedGain gain xs → Taken negates turns gain xs ys → guessed ys modes guards ≡ louder gain (guessed xs modes guards)
-changed-guess negates turns zero xs ys modes guards M N A h =
+-- ---- with a gain or without
+by-gain : (negates turns : Bool) (gain : ℕ) (xs ys : List Float) (modes guards : List ℕ) → allIn isMode modes ≡ true → pairsIn (length xs) ≤ 1048576
+    → Allowed (sampled negates turns gain) 1 xs → ChangedSamples negates turns gain xs ys → guessed ys modes guards ≡ louder gain (guessed xs modes guards)
+by-gain negates turns zero xs ys modes guards M N A h =
     search-louder 0 xs ys (h .long) (λ mode guard d m. turned-kept negates turns xs ys h mode guard d) modes guards M
-changed-guess negates turns (suc g) xs ys modes guards M N A h =
+by-gain negates turns (suc g) xs ys modes guards M N A h =
     elim A [
       | inl z ↦ absurd (omega arith)
       | inr w ↦ search-louder (suc g) xs ys (h .long) (λ mode guard d m. gained-kept negates turns g (w .0) xs ys N (w .1) h mode guard d m) modes guards M
     ]
+
+pub changed-guess : (negates : Bool) (c : Change) (xs ys : List Float) (modes guards : List ℕ) → allIn isMode modes ≡ true → pairsIn (length xs) ≤ 1048576
+    → Allowed (ofSamples negates c) 1 xs → Changed (ofSamples negates c) 1 (λ b. b) xs ys
+    → guessed ys modes guards ≡ louder (c .gain) (guessed xs modes guards)
+changed-guess negates c xs ys modes guards M N A h = by-gain negates (c .turns) (c .gain) xs ys modes guards M N A h

@@ -1,6 +1,6 @@
 -- What document 01 says of the guess as facts: where something is found its energy is not at or below zero; nothing is found only if every offset
 -- tried has energy at or below zero, or none is tried; the first offset with energy is taken whatever its metric, even a NaN; afterwards
--- only a greater metric replaces. Without a mode, or without a guard, no samples are needed.
+-- only a greater metric replaces. Without a mode, or without a guard, no samples are needed. An answer's number is the operation's code.
 -- Assumes nothing.
 use Prim.Native.Nat.{ℕ, zero, suc, _+_, _*_, _≤_, _<_}
 use mathlib.Core.Bool.{Bool, true, false, _||_, cond}
@@ -9,15 +9,17 @@ use mathlib.Core.Path.{_≡_, refl, sym, ap, subst, _∙_}
 use native.Mathlib.Nat.{le-of-suc-le-suc, not-suc-le-zero}
 use native.Mathlib.Omega.{arith}
 use borrow.Author.Tests.{lt-ltb, le-leb, eqb-true, eq-eqb}
-use lib.Dec.{leb, ltb, eqb}
+use lib.Dec.{T, leb, ltb, eqb, eqb→eq}
 use lib.ListN.{length, getD}
 use lib.Ieee.{Float, binary64, lt, le}
 use Rattle.ieee.specs.Constants.{plusZero}
 use Rattle.lists.specs.Lists.{range}
 use Rattle.lists.specs.Tests.{memb}
 use Rattle.lists.specs.Select.{length-upTo, getD-upTo}
-use Rattle.guess.specs.Samples.{fftOf, guardOf, symbolOf, greatest, samplesNeeded}
+use Rattle.guess.specs.Samples.{fftOf, guardOf, symbolOf, greatest, samplesNeeded, samplesCode, samplesAnswer, samplesNumber}
 use Rattle.guess.specs.Guess.{pairsIn, lagsIn, energyAt, guessAt, beats, offered, scan, triedGuard, triedMode, guessed}
+use Rattle.guess.specs.Guess.{guessCode, guessAnswer, searchNumber}
+use Rattle.guess.specs.declared.SamplesNeeded.the-variants as needed
 use Rattle.guess.specs.declared.ModeGuess.{ModeGuess}
 use Rattle.guess.specs.declared.GuardSearch.{GuardSearch}
 use Rattle.guess.specs.declared.GuardSearch.the-variants.{Found, Nothing, Refused}
@@ -99,6 +101,35 @@ good-offered xs mode guard b d h = by (le (energyAt xs mode guard d) (plusZero b
 
 pub found-is : (xs : List Float) (modes guards : List ℕ) (g : ModeGuess) → guessed xs modes guards ≡ Found g → FoundIs xs g
 found-is xs modes guards g e = subst (Good xs) e (search-keeps (Good xs) xs (good-offered xs) modes guards tt)
+
+-- ---- an answer's number is the number that refuses the call, and 0 where nothing does
+numbered : {A : Type 0} (number : A → ℕ) (refused : ℕ → A) (code : ℕ) (x : A) → number x ≡ 0 → ((k : ℕ) → number (refused k) ≡ k)
+    → number (cond (eqb code 0) x (refused code)) ≡ code
+numbered number refused code x z r = by (eqb code 0) (eqb→eq code 0)
+  where
+    by : (b : Bool) → (T b → code ≡ 0) → number (cond b x (refused code)) ≡ code
+    by true f = z ∙ sym (f tt)
+    by false f = r code
+
+pub samples-number : (modes guards : List ℕ) (symbols : ℕ) → samplesNumber (samplesAnswer modes guards symbols) ≡ samplesCode modes guards symbols
+unfolding samplesAnswer
+samples-number modes guards symbols = numbered samplesNumber needed.Refused (samplesCode modes guards symbols) _ refl (λ k. refl)
+
+-- a search never ends refused
+abbrev Unrefused : GuardSearch → Type 0
+Unrefused b = searchNumber b ≡ 0
+
+unrefused-offered : (xs : List Float) (mode guard : ℕ) (b : GuardSearch) (d : ℕ) → Unrefused b → Unrefused (offered xs mode guard b d)
+unrefused-offered xs mode guard b d h =
+    let g = guessAt xs mode guard d in
+    cond-keeps Unrefused (le (energyAt xs mode guard d) (plusZero binary64)) b _ h (cond-keeps Unrefused (beats g b) (Found g) b refl h)
+
+pub search-number : (xs : List Float) (modes guards : List ℕ) (scratch : ℕ)
+    → searchNumber (guessAnswer xs modes guards scratch) ≡ guessCode modes guards (length xs) scratch
+unfolding guessAnswer
+search-number xs modes guards scratch =
+    numbered searchNumber Refused (guessCode modes guards (length xs) scratch) (guessed xs modes guards)
+    (search-keeps Unrefused xs (unrefused-offered xs) modes guards refl) (λ k. refl)
 
 -- an offset that the search tries
 pub record Offered (xs : List Float) (modes guards : List ℕ) (mode guard d : ℕ) : Type 0 where

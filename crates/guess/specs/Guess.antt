@@ -1,6 +1,6 @@
 -- The guess (acquire.rs, `detect_mode`; document 01, "The guess"): guard-interval autocorrelation over samples, for each mode and guard of
 -- the lists and each offset within a symbol. Prefix sums of the lagged products and of the halved energies are made once a mode.
--- Assumes nothing.
+-- Definitions only.
 use Prim.Native.Nat.{ℕ, _+_, _-_, _*_, _/_, _%_}
 use mathlib.Core.Bool.{Bool, true, _&&_, cond}
 use mathlib.Core.List.{List, [], _∷_, map}
@@ -107,10 +107,28 @@ guessAnswer xs modes guards scratch =
     let code = guessCode modes guards (length xs) scratch in
     cond (eqb code 0) (guessed xs modes guards) (Refused code)
 
+-- the answer's number in document 01: 0 also where nothing is found
+abbrev pub searchNumber : GuardSearch → ℕ
+searchNumber (Found g) = 0
+searchNumber Nothing = 0
+searchNumber (Refused code) = code
+
+-- what the answer gives, or what was lent: 1 where something is found and 0 where nothing is; and a value of the guess
+abbrev pub foundGiven : GuardSearch → ℕ → ℕ
+foundGiven (Found g) lent = 1
+foundGiven Nothing lent = 0
+foundGiven (Refused code) lent = lent
+
+abbrev pub guessGiven : {A : Type 0} → (ModeGuess → A) → GuardSearch → A → A
+guessGiven value (Found g) lent = value g
+guessGiven value Nothing lent = lent
+guessGiven value (Refused code) lent = lent
+
 -- the scratch at exit: zeros, all of it, after an accepted call
 unfoldable pub scratchLeaves : ℕ → List ℕ → List ℕ → List Float → List Float
 scratchLeaves floats modes guards old = cond (eqb (guessCode modes guards floats (length old)) 0) (upTo (λ i. plusZero binary64) (length old)) old
 
 pub record Searched (xs : List Float) (modes guards : List ℕ) (old : List Float) (r : GuardSearch) (now : List Float) : Type 0 where
+  pub number : searchNumber r ≡ guessCode modes guards (length xs) (length old)
   pub answer : r ≡ guessAnswer xs modes guards (length old)
   pub leaves : now ≡ scratchLeaves (length xs) modes guards old

@@ -2,6 +2,7 @@ pub mod Samples
 pub mod Guess
 pub mod Inner
 pub mod Windows
+pub mod Louder
 pub mod Changed
 pub mod Facts
 pub mod Checked

@@ -1,8 +1,9 @@
 -- Modes and guards as lists of codes, and how many samples a guard search needs (acquire.rs, `samples_needed`).
--- Assumes nothing.
+-- Definitions only.
 use Prim.Native.Nat.{ℕ, _+_, _*_, _/_}
 use mathlib.Core.Bool.{Bool, true, false, cond}
 use mathlib.Core.List.{List, [], _∷_, map}
+use mathlib.Core.Path.{_≡_}
 use lib.Dec.{leb, ltb, eqb}
 use Rattle.lists.specs.Lists.{joined}
 use Rattle.lists.specs.Refusals.{unless}
@@ -64,3 +65,16 @@ samplesCode modes guards symbols = unless (allIn isMode modes) 1 (unless (allIn 
 unfoldable pub samplesAnswer : List ℕ → List ℕ → ℕ → SamplesNeeded
 samplesAnswer modes guards symbols =
     cond (eqb (samplesCode modes guards symbols) 0) (Samples (samplesNeeded modes guards symbols)) (Refused (samplesCode modes guards symbols))
+
+-- the answer's number in document 01, and the samples that it gives, or what was lent
+abbrev pub samplesNumber : SamplesNeeded → ℕ
+samplesNumber (Samples n) = 0
+samplesNumber (Refused code) = code
+
+abbrev pub samplesGiven : SamplesNeeded → ℕ → ℕ
+samplesGiven (Samples n) lent = n
+samplesGiven (Refused code) lent = lent
+
+pub record SamplesTold (modes guards : List ℕ) (symbols : ℕ) (r : SamplesNeeded) : Type 0 where
+  pub number : samplesNumber r ≡ samplesCode modes guards symbols
+  pub answer : r ≡ samplesAnswer modes guards symbols

@@ -8,7 +8,7 @@ ghost use lib.Ieee.{binary64};
 ghost use Rattle.ieee.specs.Constants.{plusZero};
 ghost use Rattle.lists.specs.Lists.{upTo};
 ghost use Rattle.lists.specs.Tests.{allIn};
-ghost use Rattle.guess.specs.Samples.{fftOf, neededBy, greatest, samplesAnswer};
+ghost use Rattle.guess.specs.Samples.{fftOf, neededBy, greatest, SamplesTold};
 ghost use Rattle.guess.specs.Guess.{starts, triedMode, Searched};
 ghost use Rattle.guess.specs.Inner.{isCode, Counted, Holds, Writable, Windowed, Inside, searchOf, guessOf, betterOf, Tried, Triable, AllTriable};
 use complex::C64;
@@ -16,12 +16,6 @@ use params::GuardDenominator;
 use params::GuardInterval;
 use params::Mode;
 use params::ModeNumber;
-
-// All modes.
-pub const MODES: [u8; 3] = [1, 2, 3];
-
-// All guards.
-pub const GUARDS: [u8; 4] = [4, 8, 16, 32];
 
 pub enum SamplesNeeded {
     Samples(usize),
@@ -128,7 +122,7 @@ fn mode_needs(mode: u8, guards: &[u8], symbols: usize) -> usize
 //
 // Refused by 1 for a bad mode, 9 for a bad guard, 10 for more than 64 symbols. Empty lists give 0.
 pub fn samples_needed(modes: &[u8], guards: &[u8], symbols: usize) -> SamplesNeeded
-    ensures { λ r. ⌜ r ≡ samplesAnswer (now (modes .entry)) (now (guards .entry)) symbols ⌝ }
+    ensures { λ r. ⌜ SamplesTold (now (modes .entry)) (now (guards .entry)) symbols r ⌝ }
 {
     if !are_codes(Codes::Modes, modes) {
         return SamplesNeeded::Refused(1);

@@ -14,13 +14,20 @@ use Rattle.params.specs.Params.{totalCarriers}
 use Rattle.frame.specs.Operations.{areKinds, layoutCode}
 use Rattle.frame.specs.Inner.{AcceptedLayout}
 use Rattle.frame.specs.Answers.{kinds-good}
+use Rattle.tmcc.specs.declared.SoftTmcc.{SoftTmcc}
 use Rattle.tmcc.specs.declared.SoftTmcc.the-variants.{Value, Refused}
-use Rattle.tmcc.specs.Tmcc.{softValue, softCode, softAnswer}
+use Rattle.tmcc.specs.Tmcc.{softValue, twoSpectraCode, softCode, softAnswer, softNumber, SoftTold}
+use Rattle.tmcc.specs.Facts.{soft-number}
 
-module _ (number : ModeNumber) (kinds : List ℕ) (code : ℕ) (m : Mode) (read : List ℕ) (a : AcceptedLayout number kinds code m read) (xs : List Float) (filter : ℕ) where
-  pub refused-layout : (code ≡ 0 → ⊥) → Refused code ≡ softAnswer number kinds xs filter
-  unfolding layoutCode softCode softAnswer
-  refused-layout h = by number (a .refusal)
+told : (number : ModeNumber) (kinds : List ℕ) (xs : List Float) (filter : ℕ) (r : SoftTmcc) → r ≡ softAnswer number kinds xs filter
+    → SoftTold number kinds xs filter r
+told number kinds xs filter r e = record { number = ap softNumber e ∙ soft-number number kinds xs filter; answer = e }
+
+module _ (number : ModeNumber) (kinds : List ℕ) (code : ℕ) (m : Mode) (read : List ℕ) (a : AcceptedLayout number kinds code m read)
+    (xs : List Float) (filter : ℕ) where
+  pub refused-layout : (code ≡ 0 → ⊥) → SoftTold number kinds xs filter (Refused code)
+  unfolding layoutCode twoSpectraCode softCode softAnswer
+  refused-layout h = told _ _ _ _ _ (by number (a .refusal))
     where
       tested : (k : Mode) (good : Bool) → areKinds kinds ≡ good → code ≡ layoutCode (Known k) kinds → Refused code ≡ softAnswer (Known k) kinds xs filter
       tested k true g e = absurd (h (rw g at e))
@@ -32,15 +39,16 @@ module _ (number : ModeNumber) (kinds : List ℕ) (code : ℕ) (m : Mode) (read 
 
   -- a layout that was accepted, of a band of k carriers
   module _ (z : code ≡ 0) (k : ℕ) (band : k ≡ totalCarriers m) where
-    pub refused-length : (length xs ≡ 4 * k → ⊥) → Refused 5 ≡ softAnswer number kinds xs filter
-    unfolding softCode softAnswer
-    refused-length h = rw (a .known z, kinds-good _ _ _ _ _ a z, ← band, ne-eqb _ _ h)
+    pub refused-length : (length xs ≡ 4 * k → ⊥) → SoftTold number kinds xs filter (Refused 5)
+    unfolding twoSpectraCode softCode softAnswer
+    refused-length h = told _ _ _ _ _ (rw (a .known z, kinds-good _ _ _ _ _ a z, ← band, ne-eqb _ _ h))
 
     module _ (two : length xs ≡ 4 * k) where
-      pub refused-filter : 2 < filter → Refused 3 ≡ softAnswer number kinds xs filter
-      unfolding softCode softAnswer
-      refused-filter h = rw (a .known z, kinds-good _ _ _ _ _ a z, ← band, eq-eqb _ _ two, lt-leb _ _ h)
+      pub refused-filter : 2 < filter → SoftTold number kinds xs filter (Refused 3)
+      unfolding twoSpectraCode softCode softAnswer
+      refused-filter h = told _ _ _ _ _ (rw (a .known z, kinds-good _ _ _ _ _ a z, ← band, eq-eqb _ _ two, lt-leb _ _ h))
 
-      pub answered : (v : Float) → filter ≤ 2 → v ≡ softValue m read filter xs → Value v ≡ softAnswer number kinds xs filter
-      unfolding softCode softAnswer
-      answered v h e = rw (a .known z, kinds-good _ _ _ _ _ a z, ← band, eq-eqb _ _ two, le-leb _ _ h) (ap Value (e ∙ rw (a .same z)))
+      pub answered : (v : Float) → filter ≤ 2 → v ≡ softValue m read filter xs → SoftTold number kinds xs filter (Value v)
+      unfolding twoSpectraCode softCode softAnswer
+      answered v h e =
+          told _ _ _ _ _ (rw (a .known z, kinds-good _ _ _ _ _ a z, ← band, eq-eqb _ _ two, le-leb _ _ h) (ap Value (e ∙ rw (a .same z))))

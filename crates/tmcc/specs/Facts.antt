@@ -1,5 +1,5 @@
 -- What the soft value adds up. With every segment let pass, the carriers are those of role TMCC, ascending; a filter keeps those of them that
--- lie in the segments that pass, in the same order; and a filter that no segment passes gives -0.0.
+-- lie in the segments that pass, in the same order; and a filter that no segment passes gives -0.0. An answer's number is the operation's code.
 -- Assumes nothing.
 use Prim.Native.Nat.{ℕ, suc, suc-le-suc, _+_, _*_, _/_, _≤_, _<_}
 use mathlib.Core.Bool.{Bool, true, false, cond, _&&_}
@@ -10,7 +10,7 @@ use native.Mathlib.Nat.{zero-add}
 use native.Mathlib.Omega.{arith}
 use borrow.Author.Tests.{eq-eqb, ne-eqb, le-leb, leb-true, ltb-true}
 use lib.Arith.{digits-div}
-use lib.Dec.{eqb, leb, ltb, lit<}
+use lib.Dec.{T, eqb, leb, ltb, eqb→eq, lit<}
 use lib.Ieee.{Float}
 use lib.ListN.{getD, length}
 use Rattle.ieee.specs.Constants.{minusZero}
@@ -21,6 +21,8 @@ use Rattle.lists.specs.Select.{length-upTo, getD-upTo, select-append}
 use Rattle.lists.specs.Tests.{memb, allBelow, allBelow-at, both-left, both-right}
 use Rattle.params.specs.declared.Mode.{Mode}
 use Rattle.params.specs.declared.Mode.the-variants.{M1, M2, M3}
+use Rattle.params.specs.declared.ModeNumber.{ModeNumber}
+use Rattle.params.specs.declared.ModeNumber.the-variants.{Known, Unknown}
 use Rattle.params.specs.declared.SegmentKind.{SegmentKind}
 use Rattle.params.specs.declared.SegmentKind.the-variants.{Coherent, Differential}
 use Rattle.params.specs.Params.{carriersPerSegment, kindFrom}
@@ -33,7 +35,20 @@ use Rattle.frame.specs.declared.CarrierRole.the-variants.{Tmcc}
 use Rattle.frame.specs.Rules.{placeHas}
 use Rattle.frame.specs.OneRole.{place-has}
 use Rattle.frame.specs.BySegment.{by-segment}
-use Rattle.tmcc.specs.Tmcc.{passes, placeTmcc, tmccCarriers, softValue}
+use Rattle.tmcc.specs.Tmcc.{passes, placeTmcc, tmccCarriers, softValue, twoSpectraCode, softCode, softAnswer, softNumber}
+use Rattle.tmcc.specs.declared.SoftTmcc.the-variants.{Value, Refused}
+
+-- an answer's number is the number that refuses the call, and 0 where nothing does
+pub soft-number : (mode : ModeNumber) (kinds : List ℕ) (xs : List Float) (filter : ℕ)
+    → softNumber (softAnswer mode kinds xs filter) ≡ softCode mode kinds (length xs) filter
+unfolding softAnswer softCode twoSpectraCode
+soft-number Unknown kinds xs filter = refl
+soft-number (Known m) kinds xs filter =
+    let code = softCode (Known m) kinds (length xs) filter in by code (eqb code 0) (eqb→eq code 0)
+  where
+    by : (code : ℕ) (b : Bool) → (T b → code ≡ 0) → softNumber (cond b (Value (softValue m kinds filter xs)) (Refused code)) ≡ code
+    by code true f = sym (f tt)
+    by code false f = refl
 
 -- a filter that no segment passes gives -0.0
 pub nothing-passes : (mode : Mode) (kinds : List ℕ) (filter : ℕ) (xs : List Float)

@@ -1,9 +1,10 @@
 -- The soft TMCC value (acquire.rs, `tmcc_soft`): over the TMCC carriers of the segments that a filter lets pass, the real parts of the products
 -- of a spectrum and the conjugate of the one before it, added from -0.0. Below zero it reads as bit 1.
--- Assumes nothing.
+-- Definitions only.
 use Prim.Native.Nat.{ℕ, _+_, _*_}
 use mathlib.Core.Bool.{Bool, true, cond}
 use mathlib.Core.List.{List, [], map}
+use mathlib.Core.Path.{_≡_}
 use lib.Dec.{eqb, leb}
 use lib.ListN.{getD, length}
 use lib.Ieee.{Float, binary32}
@@ -45,13 +46,30 @@ softTerm len xs k = product binary32 (pairAt xs (len + k)) (conjugate (pairAt xs
 unfoldable pub softValue : Mode → List ℕ → ℕ → List Float → Float
 softValue mode kinds filter xs = total binary32 minusZero (map (softTerm (totalCarriers mode) xs) (tmccCarriers mode kinds filter))
 
--- 1; 2; 5 unless two spectra; 3 for a filter other than 0, 1 or 2
+-- what refuses two spectra of a layout, with later tests behind: 1; 2; 5 unless two spectra
+unfoldable pub twoSpectraCode : ModeNumber → List ℕ → ℕ → ℕ → ℕ
+twoSpectraCode Unknown kinds floats later = 1
+twoSpectraCode (Known m) kinds floats later = unless (areKinds kinds) 2 (unless (eqb floats (4 * totalCarriers m)) 5 later)
+
+-- the same, then 3 for a filter other than 0, 1 or 2
 unfoldable pub softCode : ModeNumber → List ℕ → ℕ → ℕ → ℕ
-softCode Unknown kinds floats filter = 1
-softCode (Known m) kinds floats filter = unless (areKinds kinds) 2 (unless (eqb floats (4 * totalCarriers m)) 5 (unless (leb filter 2) 3 0))
+softCode mode kinds floats filter = twoSpectraCode mode kinds floats (unless (leb filter 2) 3 0)
 
 unfoldable pub softAnswer : ModeNumber → List ℕ → List Float → ℕ → SoftTmcc
 softAnswer Unknown kinds xs filter = Refused 1
 softAnswer (Known m) kinds xs filter =
     let code = softCode (Known m) kinds (length xs) filter in
     cond (eqb code 0) (Value (softValue m kinds filter xs)) (Refused code)
+
+-- the answer's number in document 01, and the value that it gives, or what was lent
+abbrev pub softNumber : SoftTmcc → ℕ
+softNumber (Value v) = 0
+softNumber (Refused code) = code
+
+abbrev pub softGiven : SoftTmcc → Float → Float
+softGiven (Value v) lent = v
+softGiven (Refused code) lent = lent
+
+pub record SoftTold (mode : ModeNumber) (kinds : List ℕ) (xs : List Float) (filter : ℕ) (r : SoftTmcc) : Type 0 where
+  pub number : softNumber r ≡ softCode mode kinds (length xs) filter
+  pub answer : r ≡ softAnswer mode kinds xs filter

@@ -4,7 +4,7 @@ ghost use mathlib.Core.Path.{_≡_};
 ghost use Prim.Native.Nat.{_*_};
 ghost use lib.ListN.{length};
 ghost use Rattle.params.specs.Params.{modeFrom, totalCarriers};
-ghost use Rattle.tmcc.specs.Tmcc.{passes, softValue, softAnswer};
+ghost use Rattle.tmcc.specs.Tmcc.{passes, softValue, SoftTold};
 ghost use Rattle.tmcc.specs.Inner.{Addable, addedTo};
 use frame::FrameLayout;
 use ofdm::BandPlace;
@@ -75,7 +75,7 @@ fn soft_value(layout: FrameLayout, spectra: &[f32], filter: u8) -> f32
 // Refused by 1 for a bad mode, 2 unless there are thirteen kinds of 0 or 1, 5 unless two spectra, 3 for
 // another filter.
 pub fn tmcc_soft(mode: u8, kinds: &[u8], spectra: &[f32], filter: u8) -> SoftTmcc
-    ensures { λ r. ⌜ r ≡ softAnswer (modeFrom mode) (now (kinds .entry)) (now (spectra .entry)) filter ⌝ }
+    ensures { λ r. ⌜ SoftTold (modeFrom mode) (now (kinds .entry)) (now (spectra .entry)) filter r ⌝ }
 {
     let new = FrameLayout::new(mode, kinds);
     let code = new.code;
