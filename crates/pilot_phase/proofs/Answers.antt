@@ -22,18 +22,18 @@ use Rattle.frame.specs.Operations.{areKinds, layoutCode}
 use Rattle.frame.specs.Inner.{AcceptedLayout}
 use Rattle.frame.specs.Answers.{kinds-good}
 use Rattle.pilot_phase.specs.declared.PilotPhase.the-variants.{NoScatteredPilots, Phase}
+use Rattle.pilot_phase.specs.declared.PhaseAnswer.{PhaseAnswer}
+use Rattle.pilot_phase.specs.declared.PhaseAnswer.the-variants.{Detected, Refused}
 use Rattle.pilot_phase.specs.declared.PilotAnswer.{PilotAnswer}
-use Rattle.pilot_phase.specs.PilotPhase.{pilots, votes, countOf, countsOf, wonBy, nextTo, shareOf, leadOf, phaseCode, phaseAnswer, countsAnswer, PhaseDetected}
+use Rattle.pilot_phase.specs.PilotPhase.{pilots, votes, countOf, countsOf, wonBy, nextTo, shareOf, leadOf}
+use Rattle.pilot_phase.specs.PilotPhase.{phaseCode, detected, phaseAnswer, noCounts, countsAnswer, phaseNumber, PhaseDetected}
 use Rattle.pilot_phase.specs.Inner.{Votable, Won, somePilots, Nothing}
-use Rattle.pilot_phase.specs.Facts.{next-below}
+use Rattle.pilot_phase.specs.Facts.{phase-number, next-below}
 use Rattle.pilot_phase.proofs.Counting.{counts-at, count-few, votes-length}
 
-abbrev zeros : List ℕ
-zeros = 0 ∷ 0 ∷ 0 ∷ 0 ∷ []
-
-zeros-lead : leadOf zeros ≡ 0
+no-lead : leadOf noCounts ≡ 0
 unfolding leadOf wonBy nextTo
-zeros-lead = refl
+no-lead = refl
 
 -- ---- few spectra
 module _ (m : Mode) (xs : List Float) {k : ℕ} (sizes : k ≡ totalCarriers m) (f : length xs / (2 * k) ≤ 1024) where
@@ -58,19 +58,23 @@ whole-total {n} {all} f b = held-exactly (pos all) (omega (arith, b, by (eqb n 0
 pub lead-fits : {counts : List ℕ} {won next : ℕ} → Won counts won → next ≡ nextTo counts won → next ≤ getD counts won 0
 lead-fits {counts} v e = rw (e, v .won) (next-below counts)
 
--- ---- nothing was counted
-nothing-detected : {number : ModeNumber} {kinds : List ℕ} {xs : List Float} {n : ℕ} {r : PilotAnswer} → n ≡ phaseCode number kinds (length xs)
-    → countsAnswer number kinds xs ≡ zeros → phaseAnswer number kinds xs ≡ NoScatteredPilots → Nothing n r → PhaseDetected number kinds xs r
-nothing-detected e c p a =
-    record { code = a .same ∙ e; phase = a .phase ∙ sym p; counts = a .counts ∙ sym c; lead = a .lead ∙ sym (ap leadOf c ∙ zeros-lead) }
+-- ---- what an answer, counts and a lead make
+made : (number : ModeNumber) (kinds : List ℕ) (xs : List Float) {r : PilotAnswer} → r .answer ≡ phaseAnswer number kinds xs
+    → r .counts ≡ countsAnswer number kinds xs → r .lead ≡ leadOf (countsAnswer number kinds xs) → PhaseDetected number kinds xs r
+made number kinds xs a c l = record { number = ap phaseNumber a ∙ phase-number number kinds xs; answer = a; counts = c; lead = l }
 
-refused : (number : ModeNumber) (kinds : List ℕ) (xs : List Float) {n : ℕ} {r : PilotAnswer} → n ≡ phaseCode number kinds (length xs) → (n ≡ 0 → ⊥) → Nothing n r
-    → PhaseDetected number kinds xs r
-unfolding countsAnswer phaseAnswer
-refused Unknown kinds xs e h a = nothing-detected e refl refl a
+-- ---- nothing was counted
+nothing-detected : (number : ModeNumber) (kinds : List ℕ) (xs : List Float) {answer : PhaseAnswer} {r : PilotAnswer}
+    → answer ≡ phaseAnswer number kinds xs → countsAnswer number kinds xs ≡ noCounts → Nothing answer r → PhaseDetected number kinds xs r
+nothing-detected number kinds xs e c a = made number kinds xs (a .same ∙ e) (a .counts ∙ sym c) (a .lead ∙ sym (ap leadOf c ∙ no-lead))
+
+refused : (number : ModeNumber) (kinds : List ℕ) (xs : List Float) {n : ℕ} {r : PilotAnswer} → n ≡ phaseCode number kinds (length xs)
+    → (n ≡ 0 → ⊥) → Nothing (Refused n) r → PhaseDetected number kinds xs r
+unfolding phaseCode countsAnswer phaseAnswer
+refused Unknown kinds xs e h a = nothing-detected Unknown kinds xs (ap Refused e) refl a
 refused (Known m) kinds xs {n} e h a =
     let no : eqb (phaseCode (Known m) kinds (length xs)) 0 ≡ false = ap (λ (z : ℕ). eqb z 0) (sym e) ∙ ne-eqb n 0 h in
-    nothing-detected e (rw no) (rw no) a
+    nothing-detected (Known m) kinds xs (rw no (ap Refused e)) (rw no) a
 
 -- a layout's refusal is the operation's
 layout-first : (number : ModeNumber) (kinds : List ℕ) (n : ℕ) → (layoutCode number kinds ≡ 0 → ⊥) → layoutCode number kinds ≡ phaseCode number kinds n
@@ -83,7 +87,7 @@ layout-first (Known m) kinds n h = by (areKinds kinds) h
     by false h = refl
 
 module _ {number : ModeNumber} {kinds : List ℕ} (xs : List Float) {code : ℕ} {m : Mode} {read : List ℕ} (a : AcceptedLayout number kinds code m read) where
-  pub bad-layout : {r : PilotAnswer} → (code ≡ 0 → ⊥) → Nothing code r → PhaseDetected number kinds xs r
+  pub bad-layout : {r : PilotAnswer} → (code ≡ 0 → ⊥) → Nothing (Refused code) r → PhaseDetected number kinds xs r
   bad-layout h n =
       refused number kinds xs (a .refusal ∙ layout-first number kinds (length xs) (λ e. h (a .refusal ∙ e))) h n
 
@@ -93,11 +97,11 @@ module _ {number : ModeNumber} {kinds : List ℕ} (xs : List Float) {code : ℕ}
     unfolding phaseCode
     code-is = rw (a .known z, kinds-good number kinds code m read a z, sizes)
 
-    pub bad-length : {r : PilotAnswer} → (length xs % (2 * k) ≡ 0 → ⊥) → Nothing 5 r → PhaseDetected number kinds xs r
+    pub bad-length : {r : PilotAnswer} → (length xs % (2 * k) ≡ 0 → ⊥) → Nothing (Refused 5) r → PhaseDetected number kinds xs r
     bad-length h n = refused number kinds xs (sym (code-is ∙ rw (ne-eqb (length xs % (2 * k)) 0 h))) (λ e. omega arith) n
 
     module _ (w : length xs % (2 * k) ≡ 0) where
-      pub too-many : {r : PilotAnswer} → 1024 < length xs / (2 * k) → Nothing 5 r → PhaseDetected number kinds xs r
+      pub too-many : {r : PilotAnswer} → 1024 < length xs / (2 * k) → Nothing (Refused 5) r → PhaseDetected number kinds xs r
       too-many h n = refused number kinds xs (sym (code-is ∙ rw (eq-eqb (length xs % (2 * k)) 0 w, lt-leb (length xs / (2 * k)) 1024 h))) (λ e. omega arith) n
 
       module _ (f : length xs / (2 * k) ≤ 1024) where
@@ -107,25 +111,24 @@ module _ {number : ModeNumber} {kinds : List ℕ} (xs : List Float) {code : ℕ}
         accepted : eqb (phaseCode (Known m) kinds (length xs)) 0 ≡ true
         accepted = eq-eqb _ 0 (rw (a .known z) at zeroed)
 
-        pub no-pilots : {r : PilotAnswer} → somePilots m read ≡ false → Nothing 0 r → PhaseDetected number kinds xs r
-        unfolding countsAnswer phaseAnswer
+        pub no-pilots : {r : PilotAnswer} → somePilots m read ≡ false → Nothing (Detected NoScatteredPilots) r → PhaseDetected number kinds xs r
+        unfolding countsAnswer phaseAnswer detected
         no-pilots p n =
             let none : eqb (length (pilots m kinds 0)) 0 ≡ true = not-false _ (rw (a .same z) at p) in
-            rw (a .known z) (nothing-detected (sym (rw (a .known z) at zeroed)) (rw (accepted, none)) (rw (accepted, none)) n)
+            rw (a .known z) (nothing-detected (Known m) kinds xs (rw (accepted, none)) (rw (accepted, none)) n)
 
-        pub answered : {counts : List ℕ} {won all next : ℕ} → counts ≡ countsOf (votes m read xs) → Won counts won → all ≡ cond (eqb (length xs / (2 * k)) 0) 1 (length xs / (2 * k))
-            → next ≡ nextTo counts won → somePilots m read ≡ true
+        pub answered : {counts : List ℕ} {won all next : ℕ} → counts ≡ countsOf (votes m read xs) → Won counts won
+            → all ≡ cond (eqb (length xs / (2 * k)) 0) 1 (length xs / (2 * k)) → next ≡ nextTo counts won → somePilots m read ≡ true
             → PhaseDetected number kinds xs
-            (record { code = 0; phase = Phase won (div binary32 (ofInt binary32 (pos (getD counts won 0))) (ofInt binary32 (pos all))); counts = counts; lead = getD counts won 0 - next })
-        unfolding countsAnswer phaseAnswer shareOf leadOf
+            (record {
+              answer = Detected (Phase won (div binary32 (ofInt binary32 (pos (getD counts won 0))) (ofInt binary32 (pos all))));
+              counts = counts;
+              lead = getD counts won 0 - next;
+            })
+        unfolding countsAnswer phaseAnswer detected shareOf leadOf
         answered {counts} {won} {all} c v b e p =
             let some : eqb (length (pilots m kinds 0)) 0 ≡ false = not-true _ (rw (a .same z) at p) in
             let d : counts ≡ countsOf (votes m kinds xs) = rw (a .same z) at c in
             let t : all ≡ cond (eqb (spectraIn (totalCarriers m) (length xs)) 0) 1 (spectraIn (totalCarriers m) (length xs)) = rw sizes at b in
             rw (a .known z)
-            (record {
-              code = sym (rw (a .known z) at zeroed);
-              phase = rw (accepted, some, ← d, t, v .won);
-              counts = rw (accepted, some) d;
-              lead = rw (accepted, some, ← d, e, v .won);
-            })
+            (made (Known m) kinds xs (rw (accepted, some, ← d, t, v .won)) (rw (accepted, some) d) (rw (accepted, some, ← d, e, v .won)))

@@ -34,8 +34,9 @@ use Rattle.spectra.specs.Changes.{Changed, Allowed}
 use Rattle.prbs.specs.Signs.{bandSigns, pilotAmplitude, pilotValue}
 use Rattle.pilot_phase.specs.PilotPhase.{pilots, twelveApart, unsigned, pilotProduct, pilotEnergy, productSum, energySum, phaseMetric}
 use Rattle.pilot_phase.specs.PilotPhase.{Choice, chooseFrom, choiceOf, voteOf, spectrumAt, votes}
-use Rattle.pilot_phase.specs.PilotPhase.{countsOf, wonBy, shareOf, phaseCode, phaseAnswer, countsAnswer}
-use Rattle.pilot_phase.specs.declared.PilotPhase.{PilotPhase}
+use Rattle.pilot_phase.specs.PilotPhase.{countsOf, wonBy, shareOf, phaseCode, detected, phaseAnswer, noCounts, countsAnswer}
+use Rattle.pilot_phase.specs.declared.PhaseAnswer.{PhaseAnswer}
+use Rattle.pilot_phase.specs.declared.PhaseAnswer.the-variants.{Detected, Refused}
 use Rattle.pilot_phase.specs.declared.PilotPhase.the-variants.{NoScatteredPilots, Phase}
 use Rattle.pilot_phase.specs.Pilots.{Apart, pilots-apart, few-pilots}
 
@@ -198,22 +199,21 @@ changed-votes c mode kinds xs ys A h =
 -- so what the operation answers is the same
 pub changed-phase : (c : Change) (mode : Mode) (kinds : List ℕ) (xs ys : List Float) → Allowed c (totalCarriers mode) xs → Changed c (totalCarriers mode) (λ b. b) xs ys
     → phaseAnswer (Known mode) kinds ys ≡ phaseAnswer (Known mode) kinds xs
-unfolding phaseAnswer
+unfolding phaseAnswer detected
 changed-phase c mode kinds xs ys A h =
     let v = changed-votes c mode kinds xs ys A h in
     λ i. answer (h .long i) (countsOf (v i))
   where
-    answer : ℕ → List ℕ → PilotPhase
+    answer : ℕ → List ℕ → PhaseAnswer
     answer n counts =
         cond (eqb (phaseCode (Known mode) kinds n) 0)
-        (cond (eqb (length (pilots mode kinds 0)) 0) NoScatteredPilots
-        (Phase (wonBy counts) (shareOf (getD counts (wonBy counts) 0) (spectraIn (totalCarriers mode) n))))
-        NoScatteredPilots
+        (Detected (cond (eqb (length (pilots mode kinds 0)) 0) NoScatteredPilots
+        (Phase (wonBy counts) (shareOf (getD counts (wonBy counts) 0) (spectraIn (totalCarriers mode) n)))))
+        (Refused (phaseCode (Known mode) kinds n))
 
 pub changed-counts : (c : Change) (mode : Mode) (kinds : List ℕ) (xs ys : List Float) → Allowed c (totalCarriers mode) xs → Changed c (totalCarriers mode) (λ b. b) xs ys
     → countsAnswer (Known mode) kinds ys ≡ countsAnswer (Known mode) kinds xs
 unfolding countsAnswer
 changed-counts c mode kinds xs ys A h =
-    let none : List ℕ = 0 ∷ 0 ∷ 0 ∷ 0 ∷ [] in
     let v = changed-votes c mode kinds xs ys A h in
-    λ i. cond (eqb (phaseCode (Known mode) kinds (h .long i)) 0) (cond (eqb (length (pilots mode kinds 0)) 0) none (countsOf (v i))) none
+    λ i. cond (eqb (phaseCode (Known mode) kinds (h .long i)) 0) (cond (eqb (length (pilots mode kinds 0)) 0) noCounts (countsOf (v i))) noCounts

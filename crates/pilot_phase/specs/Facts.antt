@@ -19,7 +19,8 @@ use Rattle.lists.specs.Select.{length-upTo, getD-upTo, chosen-append, Ascending
 use Rattle.lists.specs.Tests.{agree, memb}
 use Rattle.params.specs.declared.Mode.{Mode}
 use Rattle.params.specs.declared.Mode.the-variants.{M1, M2, M3}
-use Rattle.params.specs.declared.ModeNumber.the-variants.{Known}
+use Rattle.params.specs.declared.ModeNumber.{ModeNumber}
+use Rattle.params.specs.declared.ModeNumber.the-variants.{Known, Unknown}
 use Rattle.params.specs.declared.SegmentKind.{SegmentKind}
 use Rattle.params.specs.declared.SegmentKind.the-variants.{Coherent, Differential}
 use Rattle.params.specs.Params.{carriersPerSegment, totalCarriers}
@@ -30,9 +31,22 @@ use Rattle.frame.specs.Roles.{OfdmSegment, roleByte, placeRole, segmentRoles, b
 use Rattle.frame.specs.OneRole.{segment-length}
 use Rattle.frame.specs.Operations.{areKinds}
 use Rattle.pilot_phase.specs.declared.PilotPhase.the-variants.{Phase}
-use Rattle.pilot_phase.specs.PilotPhase.{pilots, twelveApart, choiceOf, voteOf, spectrumAt, votes, countOf, countsOf, better, wonBy, shareOf, nextTo, phaseCode, phaseAnswer, countsAnswer}
+use Rattle.pilot_phase.specs.declared.PhaseAnswer.{PhaseAnswer}
+use Rattle.pilot_phase.specs.declared.PhaseAnswer.the-variants.{Detected, Refused}
+use Rattle.pilot_phase.specs.PilotPhase.{pilots, twelveApart, choiceOf, voteOf, spectrumAt, votes, countOf, countsOf, better, wonBy}
+use Rattle.pilot_phase.specs.PilotPhase.{shareOf, nextTo, phaseCode, detected, phaseAnswer, countsAnswer, phaseNumber}
 use Rattle.pilot_phase.specs.Pilots.{isPilot, place-pilot, last-chosen, twelves}
 use Rattle.pilot_phase.specs.Most.{larger-one, larger-high, other, mostFrom, all-most}
+
+-- ---- an answer's number is the code
+pub phase-number : (mode : ModeNumber) (kinds : List ℕ) (xs : List Float) → phaseNumber (phaseAnswer mode kinds xs) ≡ phaseCode mode kinds (length xs)
+unfolding phaseAnswer phaseCode
+phase-number Unknown kinds xs = refl
+phase-number (Known m) kinds xs = let code = phaseCode (Known m) kinds (length xs) in by code (eqb code 0) refl
+  where
+    by : (code : ℕ) (accepted : Bool) → eqb code 0 ≡ accepted → phaseNumber (cond accepted (Detected (detected m kinds xs)) (Refused code)) ≡ code
+    by code true e = sym (eqb-true code 0 e)
+    by code false e = refl
 
 -- ---- every spectrum votes
 -- a number below four is one of the four
@@ -157,8 +171,8 @@ next-below counts =
 
 -- ---- zero spectra: phase 3 with share 0.0
 pub no-spectra : (m : Mode) (kinds : List ℕ) → areKinds kinds ≡ true → eqb (length (pilots m kinds 0)) 0 ≡ false
-    → phaseAnswer (Known m) kinds [] ≡ Phase 3 (plusZero binary32)
-unfolding phaseAnswer phaseCode countsOf countOf votes wonBy shareOf div ofInt ofBits
+    → phaseAnswer (Known m) kinds [] ≡ Detected (Phase 3 (plusZero binary32))
+unfolding phaseAnswer detected phaseCode countsOf countOf votes wonBy shareOf div ofInt ofBits
 no-spectra M1 kinds k e = rw (k, e)
 no-spectra M2 kinds k e = rw (k, e)
 no-spectra M3 kinds k e = rw (k, e)

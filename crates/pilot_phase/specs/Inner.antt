@@ -13,11 +13,11 @@ use Rattle.params.specs.Params.{totalCarriers}
 use Rattle.complex.specs.Complex.{Pair, of32, product, conjugate, plus, scaled, squaredSize, norm32}
 use Rattle.spectra.specs.Spectra.{pairAt, spectraIn}
 use Rattle.prbs.specs.Signs.{bandSigns, pilotValue}
-use Rattle.pilot_phase.specs.declared.PilotPhase.the-variants.{NoScatteredPilots}
+use Rattle.pilot_phase.specs.declared.PhaseAnswer.{PhaseAnswer}
 use Rattle.pilot_phase.specs.declared.PilotAnswer.{PilotAnswer}
 use Rattle.pilot_phase.specs.declared.Pilot.{Pilot}
 use Rattle.pilot_phase.specs.declared.Run.{Run}
-use Rattle.pilot_phase.specs.PilotPhase.{pilots, twelveApart, unsigned, productSum, energySum, wonBy}
+use Rattle.pilot_phase.specs.PilotPhase.{pilots, twelveApart, unsigned, productSum, energySum, wonBy, noCounts}
 
 -- ---- one spectrum
 -- count carriers from first on, 12 apart
@@ -97,8 +97,7 @@ abbrev pub somePilots : Mode → List ℕ → Bool
 somePilots mode kinds = not (eqb (length (pilots mode kinds 0)) 0)
 
 -- nothing was counted
-pub record Nothing (code : ℕ) (r : PilotAnswer) : Type 0 where
-  pub same : r .code ≡ code
-  pub phase : r .phase ≡ NoScatteredPilots
-  pub counts : r .counts ≡ 0 ∷ 0 ∷ 0 ∷ 0 ∷ []
+pub record Nothing (answer : PhaseAnswer) (r : PilotAnswer) : Type 0 where
+  pub same : r .answer ≡ answer
+  pub counts : r .counts ≡ noCounts
   pub lead : r .lead ≡ 0

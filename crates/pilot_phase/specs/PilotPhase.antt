@@ -26,6 +26,8 @@ use Rattle.frame.specs.Roles.{bandRoles, wide}
 use Rattle.frame.specs.Operations.{areKinds}
 use Rattle.pilot_phase.specs.declared.PilotPhase.{PilotPhase}
 use Rattle.pilot_phase.specs.declared.PilotPhase.the-variants.{NoScatteredPilots, Phase}
+use Rattle.pilot_phase.specs.declared.PhaseAnswer.{PhaseAnswer}
+use Rattle.pilot_phase.specs.declared.PhaseAnswer.the-variants.{Detected, Refused}
 use Rattle.pilot_phase.specs.declared.PilotAnswer.{PilotAnswer}
 
 -- ---- the scattered pilots of a phase, ascending: the carriers whose role byte is 1
@@ -121,23 +123,53 @@ unfoldable pub phaseCode : ModeNumber → List ℕ → ℕ → ℕ
 phaseCode Unknown kinds floats = 1
 phaseCode (Known m) kinds floats = unless (areKinds kinds) 2 (unless (areSpectra (totalCarriers m) floats) 5 0)
 
--- where there are no scattered pilots, or the call is refused, nothing was counted
-unfoldable pub countsAnswer : ModeNumber → List ℕ → List Float → List ℕ
-countsAnswer Unknown kinds xs = 0 ∷ 0 ∷ 0 ∷ 0 ∷ []
-countsAnswer (Known m) kinds xs =
-    cond (eqb (phaseCode (Known m) kinds (length xs)) 0) (cond (eqb (length (pilots m kinds 0)) 0) (0 ∷ 0 ∷ 0 ∷ 0 ∷ []) (countsOf (votes m kinds xs))) (0 ∷ 0 ∷ 0 ∷ 0 ∷ [])
-
-unfoldable pub phaseAnswer : ModeNumber → List ℕ → List Float → PilotPhase
-phaseAnswer Unknown kinds xs = NoScatteredPilots
-phaseAnswer (Known m) kinds xs =
+-- what is detected: no scattered pilots, or the phase with its share
+unfoldable pub detected : Mode → List ℕ → List Float → PilotPhase
+detected m kinds xs =
     let counts = countsOf (votes m kinds xs) in
+    cond (eqb (length (pilots m kinds 0)) 0) NoScatteredPilots
+    (Phase (wonBy counts) (shareOf (getD counts (wonBy counts) 0) (spectraIn (totalCarriers m) (length xs))))
+
+unfoldable pub phaseAnswer : ModeNumber → List ℕ → List Float → PhaseAnswer
+phaseAnswer Unknown kinds xs = Refused 1
+phaseAnswer (Known m) kinds xs =
+    let code = phaseCode (Known m) kinds (length xs) in
+    cond (eqb code 0) (Detected (detected m kinds xs)) (Refused code)
+
+-- where there are no scattered pilots, or the call is refused, nothing was counted
+abbrev pub noCounts : List ℕ
+noCounts = 0 ∷ 0 ∷ 0 ∷ 0 ∷ []
+
+unfoldable pub countsAnswer : ModeNumber → List ℕ → List Float → List ℕ
+countsAnswer Unknown kinds xs = noCounts
+countsAnswer (Known m) kinds xs =
     cond (eqb (phaseCode (Known m) kinds (length xs)) 0)
-    (cond (eqb (length (pilots m kinds 0)) 0) NoScatteredPilots
-    (Phase (wonBy counts) (shareOf (getD counts (wonBy counts) 0) (spectraIn (totalCarriers m) (length xs)))))
-    NoScatteredPilots
+    (cond (eqb (length (pilots m kinds 0)) 0) noCounts (countsOf (votes m kinds xs)))
+    noCounts
+
+-- ---- document 01's number of each case, and the values that it gives; what was lent, where it gives none
+abbrev pub phaseNumber : PhaseAnswer → ℕ
+phaseNumber (Detected found) = 0
+phaseNumber (Refused code) = code
+
+-- 1 where there are scattered pilots, 0 where there are none
+abbrev pub pilotsGiven : PhaseAnswer → ℕ → ℕ
+pilotsGiven (Detected (Phase p s)) lent = 1
+pilotsGiven (Detected NoScatteredPilots) lent = 0
+pilotsGiven (Refused code) lent = lent
+
+abbrev pub phaseGiven : PhaseAnswer → ℕ → ℕ
+phaseGiven (Detected (Phase p s)) lent = p
+phaseGiven (Detected NoScatteredPilots) lent = lent
+phaseGiven (Refused code) lent = lent
+
+abbrev pub shareGiven : PhaseAnswer → Float → Float
+shareGiven (Detected (Phase p s)) lent = s
+shareGiven (Detected NoScatteredPilots) lent = lent
+shareGiven (Refused code) lent = lent
 
 pub record PhaseDetected (mode : ModeNumber) (kinds : List ℕ) (xs : List Float) (r : PilotAnswer) : Type 0 where
-  pub code : r .code ≡ phaseCode mode kinds (length xs)
-  pub phase : r .phase ≡ phaseAnswer mode kinds xs
+  pub number : phaseNumber (r .answer) ≡ phaseCode mode kinds (length xs)
+  pub answer : r .answer ≡ phaseAnswer mode kinds xs
   pub counts : r .counts ≡ countsAnswer mode kinds xs
   pub lead : r .lead ≡ leadOf (countsAnswer mode kinds xs)

@@ -23,10 +23,15 @@ pub enum PilotPhase {
     Phase(u8, f32),
 }
 
-// The refusal's number or 0; the phase; the four counts, and the largest less the largest of the others.
+// What a call answers: what it detected, or the number by which it was refused.
+pub enum PhaseAnswer {
+    Detected(PilotPhase),
+    Refused(u8),
+}
+
+// The answer; the four counts, and the largest less the largest of the others.
 pub struct PilotAnswer {
-    pub code: u8,
-    pub phase: PilotPhase,
+    pub answer: PhaseAnswer,
     pub counts: [u32; 4],
     pub lead: u32,
 }
@@ -236,12 +241,11 @@ fn next_to(counts: [u32; 4], p: usize) -> u32
 }
 
 // An answer in which nothing was counted.
-fn nothing(code: u8) -> PilotAnswer
-    ensures { λ r. ⌜ Nothing code r ⌝ }
+fn nothing(answer: PhaseAnswer) -> PilotAnswer
+    ensures { λ r. ⌜ Nothing answer r ⌝ }
 {
     PilotAnswer {
-        code: code,
-        phase: PilotPhase::NoScatteredPilots,
+        answer: answer,
         counts: [0; 4],
         lead: 0,
     }
@@ -273,21 +277,21 @@ pub fn detect_sp_phase(mode: u8, kinds: &[u8], spectra: &[f32]) -> PilotAnswer
     let new = FrameLayout::new(mode, kinds);
     let code = new.code;
     if code != 0 {
-        return nothing(code);
+        return nothing(PhaseAnswer::Refused(code));
     }
     let layout = new.layout;
     let m = layout.mode;
     let k = m.total_carriers();
     let w = 2 * k;
     if spectra.len() % w != 0 {
-        return nothing(5);
+        return nothing(PhaseAnswer::Refused(5));
     }
     let total = spectra.len() / w;
     if total > 1024 {
-        return nothing(5);
+        return nothing(PhaseAnswer::Refused(5));
     }
     if !has_pilots(layout) {
-        return nothing(0);
+        return nothing(PhaseAnswer::Detected(PilotPhase::NoScatteredPilots));
     }
     let mut buffer = prbs::sign_buffer();
     prbs::band_w(m, &mut buffer[..k]);
@@ -296,10 +300,11 @@ pub fn detect_sp_phase(mode: u8, kinds: &[u8], spectra: &[f32]) -> PilotAnswer
     let votes = counts[won];
     let all = if total == 0 { 1 } else { total };
     let share = votes as f32 / all as f32;
+    let phase = won as u8;
+    let lead = votes - next_to(counts, won);
     PilotAnswer {
-        code: 0,
-        phase: PilotPhase::Phase(won as u8, share),
+        answer: PhaseAnswer::Detected(PilotPhase::Phase(phase, share)),
         counts: counts,
-        lead: votes - next_to(counts, won),
+        lead: lead,
     }
 }

@@ -122,14 +122,14 @@ int-to-float-share-2 c =
     whole-total (c .before .before .before .before .before .before .before .before .before .before .before .before .if3 .left)
     (⊎-elim (λ w. w .1 ∙ sym (rw (eq-eqb _ _ (w .0 .taken)))) (λ w. w .1 ∙ sym (rw (ne-eqb _ _ (w .0 .left)))) (c .before .before .if5 .came))
 
-cast-t34 : tie.Need-cast-t34
-cast-t34 c = search needs
+cast-phase : tie.Need-cast-phase
+cast-phase c = search needs
 
 next-to-requires : tie.Need-next-to-requires
 next-to-requires c κs = search needs
 
-sub-t37 : tie.Need-sub-t37
-sub-t37 c = lead-fits (c .before .before .before .before .won-by .ensures) (c .next-to .ensures)
+sub-lead : tie.Need-sub-lead
+sub-lead c = lead-fits (c .before .before .before .before .won-by .ensures) (c .next-to .ensures)
 
 returns-5 : tie.Need-returns-5
 returns-5 c =
@@ -170,7 +170,7 @@ detect-sp-phase-spec =
     array-read-votes
     int-to-float-share
     int-to-float-share-2
-    cast-t34
+    cast-phase
     next-to-requires
-    sub-t37
+    sub-lead
     returns-5)
