@@ -1,14 +1,16 @@
 -- Segments by their place in the band (ARIB STD-B31, Figure 3-32), and a carrier's FFT bin (3.14.1).
 -- Assumes nothing.
-use Prim.Native.Nat.{ℕ, _+_, _-_, _/_, _%_}
+use Prim.Native.Nat.{ℕ, _+_, _*_, _-_, _/_, _%_}
 use mathlib.Core.Bool.{cond}
 use mathlib.Core.List.{List, [], _∷_}
-use lib.Dec.{ltb}
+use mathlib.Core.Path.{_≡_}
+use lib.Dec.{eqb, ltb}
 use lib.ListN.{getD}
+use Rattle.lists.specs.Refusals.{unless}
 use Rattle.params.specs.declared.Mode.{Mode}
 use Rattle.params.specs.declared.ModeNumber.{ModeNumber}
 use Rattle.params.specs.declared.ModeNumber.the-variants.{Known, Unknown}
-use Rattle.params.specs.Params.{totalCarriers, fftSize}
+use Rattle.params.specs.Params.{carriersPerSegment, totalCarriers, fftSize}
 use Rattle.ofdm.specs.declared.BinLookup.{BinLookup}
 use Rattle.ofdm.specs.declared.BinLookup.the-variants.{Bin, Refused}
 
@@ -26,6 +28,10 @@ segmentAt place = getD order place 0
 abbrev pub placeOf : ℕ → ℕ
 placeOf seg = getD places seg 0
 
+-- the lowest carrier of the segment at a place; the edge is that of place 13
+abbrev pub firstCarrier : Mode → ℕ → ℕ
+firstCarrier m place = place * carriersPerSegment m
+
 -- the centre carrier, which has bin 0
 abbrev pub centerCarrier : Mode → ℕ
 centerCarrier m = (totalCarriers m - 1) / 2
@@ -34,7 +40,26 @@ centerCarrier m = (totalCarriers m - 1) / 2
 abbrev pub binOf : Mode → ℕ → ℕ
 binOf m k = (k + (fftSize m - centerCarrier m)) % fftSize m
 
--- the lookup's answer for every input: 1 for a bad mode; 4 for k at or above k_total
+-- what refuses a lookup, or 0: 1 for a bad mode; 4 for k at or above k_total
+abbrev pub binCode : ModeNumber → ℕ → ℕ
+binCode Unknown k = 1
+binCode (Known m) k = unless (ltb k (totalCarriers m)) 4 0
+
+-- the lookup's answer for every input: the bin, or the refusal
 unfoldable pub binLookup : ModeNumber → ℕ → BinLookup
-binLookup Unknown k = Refused 1
-binLookup (Known m) k = cond (ltb k (totalCarriers m)) (Bin (record { 0 = binOf m k })) (Refused 4)
+binLookup Unknown k = Refused (binCode Unknown k)
+binLookup (Known m) k = cond (eqb (binCode (Known m) k) 0) (Bin (record { 0 = binOf m k })) (Refused (binCode (Known m) k))
+
+-- document 01's number of an answer: 0 where there is a bin
+abbrev pub binNumber : BinLookup → ℕ
+binNumber (Bin b) = 0
+binNumber (Refused code) = code
+
+-- the bin that an answer hands back, or what was lent where it has none
+abbrev pub binGiven : BinLookup → ℕ → ℕ
+binGiven (Bin b) lent = b .0
+binGiven (Refused code) lent = lent
+
+pub record BinLookedUp (mode : ModeNumber) (k : ℕ) (r : BinLookup) : Type 0 where
+  pub number : binNumber r ≡ binCode mode k
+  pub answer : r ≡ binLookup mode k

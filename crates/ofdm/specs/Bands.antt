@@ -3,7 +3,7 @@
 use Prim.Native.Nat.{ℕ, _+_, _*_, _-_, _≤_, _<_}
 use mathlib.Core.List.{List, [], _∷_, _++_}
 use mathlib.Core.Path.{_≡_, refl, sym, _∙_}
-use native.Mathlib.Nat.{suc-mul, zero-mul, mul-le-mul-right}
+use native.Mathlib.Nat.{zero-mul}
 use native.Mathlib.Omega.{arith}
 use borrow.Rule.Slice.PartMut.{midOf, putMid, mid-len}
 use lib.ListN.{length, getD, take, drop, set}
@@ -12,7 +12,8 @@ use Rattle.lists.specs.Fill.{parts-again, parts-last}
 use Rattle.params.specs.declared.Mode.{Mode}
 use Rattle.params.specs.Params.{carriersPerSegment, totalCarriers}
 use Rattle.params.specs.Laws.{sized}
-use Rattle.ofdm.specs.Band.{order}
+use Rattle.ofdm.specs.Band.{order, firstCarrier}
+use Rattle.ofdm.specs.Laws.{segment-ends}
 
 module _ (mode : Mode) (f : ℕ → List ℕ) (size : (seg : ℕ) → length (f seg) ≡ carriersPerSegment mode) (old : List ℕ) where
   -- the segments below place are written; c is the code's count of a segment's carriers
@@ -27,34 +28,43 @@ module _ (mode : Mode) (f : ℕ → List ℕ) (size : (seg : ℕ) → length (f 
   begin c e l = record { carriers = e; band = l; passed = omega arith; same-size = refl; front = rw zero-mul }
 
   module _ (c place : ℕ) (out : List ℕ) (w : WrittenTo c place out) where
-    pub part-ends : place < 13 → place * c + c < length old
-    part-ends h =
-        let e : place * c + c ≤ 13 * c = rw (suc-mul place c) at (mul-le-mul-right c h) in
-        omega (arith, w .carriers, w .band, sized mode .band)
-
     pub part-small : length old ≤ 5617
     part-small = omega (arith, w .band, sized mode .band-high)
 
-    pub part-size : place < 13 → length (midOf (place * c) (place * c + c - place * c) out) ≡ carriersPerSegment mode
-    part-size h =
-        let whole : place * c + c - place * c ≡ c = omega arith in
-        mid-len (place * c) (place * c + c) out (omega (arith, part-ends h, w .same-size)) ∙ (whole ∙ w .carriers)
+    -- the next segment starts at carrier `from`
+    module _ (from : ℕ) (starts : from ≡ firstCarrier mode place) (h : place < 13) where
+      place-starts : from ≡ place * c
+      place-starts = rw (w .carriers) starts
 
-    pub again : (part out' : List ℕ) → place < 13 → length out' ≡ length out → part ≡ f (getD order place 0)
-        → out' ≡ putMid (place * c) (place * c + c - place * c) out part → WrittenTo c (place + 1) out'
-    again part out' h same e put =
-        record {
-          carriers = w .carriers;
-          band = w .band;
-          passed = omega arith;
-          same-size = same ∙ w .same-size;
-          front = put ∙ parts-again f c (λ s. size s ∙ sym (w .carriers)) order old out part place h (w .front) e;
-        }
+      pub part-ends : from + c < length old
+      part-ends = rw (starts, w .carriers, w .band) (segment-ends mode place h)
 
-    pub edge-inside : 13 * c < length old
-    edge-inside = omega (arith, w .carriers, w .band, sized mode .band)
+      pub part-size : length (midOf from (from + c - from) out) ≡ carriersPerSegment mode
+      part-size =
+          let whole : from + c - from ≡ c = omega arith in
+          mid-len from (from + c) out (omega (arith, part-ends, w .same-size)) ∙ (whole ∙ w .carriers)
 
-    pub finish : (v : ℕ) → 13 ≤ place → set out (13 * c) v ≡ joined f order ++ (v ∷ [])
-    finish v h =
-        let last : place ≡ 13 = omega (arith, w .passed) in
-        parts-last f c (λ s. size s ∙ sym (w .carriers)) order old out place v last (omega (arith, w .carriers, w .band, sized mode .band)) (w .front)
+      pub again : (part out' : List ℕ) → length out' ≡ length out → part ≡ f (getD order place 0)
+          → out' ≡ putMid from (from + c - from) out part → WrittenTo c (place + 1) out'
+      again part out' same e put =
+          record {
+            carriers = w .carriers;
+            band = w .band;
+            passed = omega arith;
+            same-size = same ∙ w .same-size;
+            front =
+                put ∙ (rw place-starts (parts-again f c (λ s. size s ∙ sym (w .carriers)) order old out part place h (w .front) e));
+          }
+
+    -- the edge is the carrier behind the last segment
+    module _ (edge : ℕ) (starts : edge ≡ firstCarrier mode 13) where
+      pub edge-inside : edge < length old
+      edge-inside = omega (arith, w .band, sized mode .band)
+
+      pub finish : (v : ℕ) → 13 ≤ place → set out edge v ≡ joined f order ++ (v ∷ [])
+      finish v h =
+          let last : place ≡ 13 = omega (arith, w .passed) in
+          let at : edge ≡ 13 * c = rw (w .carriers) starts in
+          rw at
+          (parts-last f c (λ s. size s ∙ sym (w .carriers)) order old out place v last
+          (omega (arith, w .carriers, w .band, sized mode .band)) (w .front))

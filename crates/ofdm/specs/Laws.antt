@@ -1,18 +1,22 @@
 -- What callers use of the band's order: the two tables undo each other and stay within the band, and a carrier's number takes apart
--- into its place in the band and its place in the segment.
+-- into its place in the band and its place in the segment. Beside it, a carrier's bin by subtraction, and the lookup's number.
 -- Assumes nothing.
-use Prim.Native.Nat.{ℕ, _+_, _*_, _<_, _≤_}
-use mathlib.Core.Path.{_≡_, refl}
+use Prim.Native.Nat.{ℕ, _+_, _*_, _-_, _<_, _≤_}
+use mathlib.Core.Bool.{Bool, true, false}
+use mathlib.Core.Path.{_≡_, refl, ap, _∙_}
 use native.Mathlib.Omega.{arith}
-use native.Mathlib.Nat.{suc-mul, mul-le-mul-right}
+use native.Mathlib.Nat.{suc-mul, mul-le-mul-right, mod-eq-of-lt, add-mod-right}
 use borrow.Author.Tests.{ltb-true, eqb-true}
 use lib.Arith.{digits-lt}
 use lib.Dec.{eqb, ltb}
 use Rattle.lists.specs.Tests.{allBelow-at}
 use Rattle.params.specs.declared.Mode.{Mode}
-use Rattle.params.specs.Params.{carriersPerSegment, totalCarriers}
+use Rattle.params.specs.declared.ModeNumber.{ModeNumber}
+use Rattle.params.specs.declared.ModeNumber.the-variants.{Known, Unknown}
+use Rattle.params.specs.Params.{carriersPerSegment, totalCarriers, fftSize}
 use Rattle.params.specs.Laws.{sized}
-use Rattle.ofdm.specs.Band.{segmentAt, placeOf}
+use Rattle.ofdm.specs.declared.BinLookup.{BinLookup}
+use Rattle.ofdm.specs.Band.{segmentAt, placeOf, centerCarrier, binOf, binCode, binLookup, binNumber, BinLookedUp}
 
 pub segment-below : (place : ℕ) → place < 13 → segmentAt place < 13
 segment-below place h = ltb-true _ _ (allBelow-at (λ p. ltb (segmentAt p) 13) 13 refl place h)
@@ -29,8 +33,34 @@ place-of-segment place h = eqb-true _ _ (allBelow-at (λ p. eqb (placeOf (segmen
 -- a segment's carriers end within the band, before its edge
 pub segment-ends : (m : Mode) (place : ℕ) → place < 13 → place * carriersPerSegment m + carriersPerSegment m < totalCarriers m
 segment-ends m place h =
-    let e : place * carriersPerSegment m + carriersPerSegment m ≤ 13 * carriersPerSegment m = rw suc-mul at (mul-le-mul-right (carriersPerSegment m) h) in
+    let c = carriersPerSegment m in
+    let e : place * c + c ≤ 13 * c = rw (suc-mul place c) at (mul-le-mul-right c h) in
     omega (arith, sized m .band)
 
 pub carrier-below : (m : Mode) (place p : ℕ) → place < 13 → p < carriersPerSegment m → place * carriersPerSegment m + p < 13 * carriersPerSegment m
 carrier-below m place p h l = digits-lt h l
+
+-- from the centre up, a carrier's bin is its distance from the centre
+pub bin-above : (m : Mode) (k : ℕ) → centerCarrier m ≤ k → k < totalCarriers m → binOf m k ≡ k - centerCarrier m
+bin-above m k low high =
+    let e : k + (fftSize m - centerCarrier m) ≡ (k - centerCarrier m) + fftSize m = omega (arith, sized m .within) in
+    rw e (add-mod-right (k - centerCarrier m) (fftSize m) ∙ mod-eq-of-lt (omega (arith, sized m .within)))
+
+-- below the centre, it is n less the distance
+pub bin-below : (m : Mode) (k : ℕ) → k < centerCarrier m → binOf m k ≡ fftSize m + k - centerCarrier m
+bin-below m k h =
+    let e : k + (fftSize m - centerCarrier m) ≡ fftSize m + k - centerCarrier m = omega (arith, sized m .within) in
+    rw e (mod-eq-of-lt (omega (arith, sized m .within)))
+
+-- the number of a lookup's answer is the definition's code
+pub bin-number : (mode : ModeNumber) (k : ℕ) → binNumber (binLookup mode k) ≡ binCode mode k
+unfolding binLookup
+bin-number Unknown k = refl
+bin-number (Known m) k = by (ltb k (totalCarriers m)) refl
+  where
+    by : (b : Bool) → ltb k (totalCarriers m) ≡ b → binNumber (binLookup (Known m) k) ≡ binCode (Known m) k
+    by true e = rw e
+    by false e = rw e
+
+pub bin-looked-up : (mode : ModeNumber) (k : ℕ) (r : BinLookup) → r ≡ binLookup mode k → BinLookedUp mode k r
+bin-looked-up mode k r e = record { number = ap binNumber e ∙ bin-number mode k; answer = e }

@@ -2,9 +2,9 @@
 // place in its segment, a segment's number, its place in the band and an FFT bin each count
 // something else, so each has a type; what leads from one to another is a function here.
 ghost use mathlib.Core.Path.{_≡_};
-ghost use Prim.Native.Nat.{_<_, _+_, _*_};
+ghost use Prim.Native.Nat.{_<_, _≤_, _+_, _*_};
 ghost use Rattle.params.specs.Params.{modeFrom, carriersPerSegment, totalCarriers};
-ghost use Rattle.ofdm.specs.Band.{segmentAt, placeOf, binOf, binLookup};
+ghost use Rattle.ofdm.specs.Band.{segmentAt, placeOf, firstCarrier, binOf, BinLookedUp};
 use params::Mode;
 use params::ModeNumber;
 
@@ -45,12 +45,20 @@ pub fn segment_position(seg: Segment) -> BandPlace
     BandPlace(PLACE_OF[s])
 }
 
+// The lowest carrier of the segment at a place of the band. Place 13 is behind the last segment: the edge.
+pub fn first_carrier(mode: Mode, place: BandPlace) -> BandCarrier
+    requires { ⌜ place .0 ≤ 13 ⌝ }
+    ensures { λ r. ⌜ r .0 ≡ firstCarrier mode (place .0) ⌝ }
+{
+    BandCarrier(place.0 * mode.carriers_per_segment())
+}
+
 // The carrier at a place of the segment that has a place in the band.
 pub fn band_carrier(mode: Mode, place: BandPlace, p: SegmentPlace) -> BandCarrier
     requires { ⌜ (place .0 < 13) × (p .0 < carriersPerSegment mode) ⌝ }
     ensures { λ r. ⌜ r .0 ≡ place .0 * carriersPerSegment mode + p .0 ⌝ }
 {
-    BandCarrier(place.0 * mode.carriers_per_segment() + p.0)
+    BandCarrier(first_carrier(mode, place).0 + p.0)
 }
 
 // The FFT bin of a carrier of the band.
@@ -72,7 +80,7 @@ pub enum BinLookup {
 // The FFT bin of carrier k in a mode that is given by its number: refused by 1 for a bad mode, by
 // 4 for a carrier that the band does not have.
 pub fn bin_lookup(mode: u8, k: BandCarrier) -> BinLookup
-    ensures { λ r. ⌜ r ≡ binLookup (modeFrom mode) (k .0) ⌝ }
+    ensures { λ r. ⌜ BinLookedUp (modeFrom mode) (k .0) r ⌝ }
 {
     let ModeNumber::Known(m) = Mode::from_number(mode) else {
         return BinLookup::Refused(1);

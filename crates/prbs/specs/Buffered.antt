@@ -12,7 +12,7 @@ use Rattle.params.specs.declared.Mode.{Mode}
 use Rattle.params.specs.Params.{carriersPerSegment, totalCarriers}
 use Rattle.params.specs.Laws.{sized}
 use Rattle.ofdm.specs.Band.{order}
-use Rattle.prbs.specs.Signs.{segmentSigns, edgeSign, bandSigns}
+use Rattle.prbs.specs.Signs.{segmentSigns, edgeSign, bandSigns, SignBuffer}
 
 pub signs-length : (mode : Mode) → length (bandSigns mode) ≡ totalCarriers mode
 unfolding bandSigns segmentSigns
@@ -20,9 +20,9 @@ signs-length mode =
     let parts = length-joined (segmentSigns mode) (carriersPerSegment mode) 0 order (λ i l. length-upTo _ (carriersPerSegment mode)) in
     omega (arith, length-append (joined (segmentSigns mode) order) (edgeSign mode ∷ []), parts, sized mode .band)
 
-module _ (m : Mode) {k : ℕ} (sizes : k ≡ totalCarriers m) (buffer : List ℕ) (size : 5617 ≡ length buffer) where
+module _ (m : Mode) {k : ℕ} (sizes : k ≡ totalCarriers m) (buffer : List ℕ) (b : SignBuffer buffer) where
   pub room : k ≤ length buffer
-  room = omega (arith, sized m .band-high)
+  room = omega (arith, b .size, sized m .band-high)
 
   pub front-length : length (take k buffer) ≡ k
   front-length = length-take-le k buffer room

@@ -6,7 +6,7 @@ ghost use lib.ListN.{length};
 ghost use Rattle.lists.specs.Lists.{upTo};
 ghost use Rattle.params.specs.Params.{modeFrom, carriersPerSegment, totalCarriers};
 ghost use Rattle.complex.specs.Complex.{of32};
-ghost use Rattle.prbs.specs.Signs.{loaded, Step, signAfter, segmentSigns, bandSigns, edgeSign, pilotValue};
+ghost use Rattle.prbs.specs.Signs.{loaded, Step, signAfter, segmentSigns, bandSigns, edgeSign, pilotValue, SignBuffer};
 ghost use Rattle.prbs.specs.Signs.{xor as Signs·xor};
 ghost use Rattle.prbs.specs.SignMap.{SignMap};
 use complex::C32;
@@ -129,9 +129,9 @@ pub fn pilot_value(w: u8) -> C32
     C32::new(amplitude, 0.0)
 }
 
-// Room for the signs of the largest band. The `ensures` gives the length alone.
+// Room for the signs of the largest band, all zeros.
 pub fn sign_buffer() -> [u8; 5617]
-    ensures { λ r. ⌜ 5617 ≡ length r ⌝ }
+    ensures { λ r. ⌜ SignBuffer r ⌝ }
 {
     [0; 5617]
 }
@@ -144,13 +144,14 @@ pub fn band_w(mode: Mode, out: &mut [u8])
     let c = mode.carriers_per_segment();
     let mut place: usize = 0;
     while place < 13 {
-        let from = place * c;
-        let to = from + c;
         let seg = ofdm::segment_at_position(BandPlace(place));
+        let from = ofdm::first_carrier(mode, BandPlace(place)).0;
+        let to = from + c;
         segment_w(mode, seg, &mut out[from..to]);
         place += 1;
     }
-    out[13 * c] = edge_w(mode);
+    let edge = ofdm::first_carrier(mode, BandPlace(13)).0;
+    out[edge] = edge_w(mode);
 }
 
 // Sign map: W of each carrier of the band, 0 for +4/3 and 1 for -4/3.

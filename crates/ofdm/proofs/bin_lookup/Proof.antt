@@ -1,8 +1,9 @@
 -- `ofdm::bin_lookup` meets its contract: each return is the case of the definition that the tests on the way decide.
 -- Assumes nothing.
-use borrow.Author.Tests.{lt-ltb, le-ltb}
-use Rattle.ofdm.specs.Band.{binLookup}
+use mathlib.Core.Path.{sym, _∙_}
+use Rattle.ofdm.proofs.Answers.{bin-bad-mode, bin-bad-carrier, bin-found}
 use borrow.Author.Needs.{needs}
+use native.Mathlib.Omega.{arith}
 use Rattle.ofdm.proofs.bin_lookup.Statement.{statement}
 use Rattle.ofdm.proofs.bin_lookup.Tie as tie
 
@@ -16,22 +17,23 @@ enum-told : tie.Need-enum-told
 enum-told c = search needs
 
 returns : tie.Need-returns
-unfolding binLookup
-returns c = rw (← c .before .before .from-number .ensures, c .enum-told .given .1)
+returns c = bin-bad-mode _ _ (sym (c .before .before .from-number .ensures) ∙ c .enum-told .given .1)
 
 total-carriers-requires : tie.Need-total-carriers-requires
 total-carriers-requires c κs = search needs
 
 returns-2 : tie.Need-returns-2
-unfolding binLookup
-returns-2 c = rw (← c .before .before .before .before .before .from-number .ensures, c .before .before .before .m .given .1, le-ltb _ _ (rw (c .before .total-carriers .ensures) at (c .if1 .taken)))
+returns-2 c =
+    let known = c .before .before .before in
+    bin-bad-carrier _ _ _ (sym (known .before .before .from-number .ensures) ∙ known .m .given .1) (omega arith)
 
 carrier-bin-requires : tie.Need-carrier-bin-requires
 carrier-bin-requires c κs = search needs
 
 returns-3 : tie.Need-returns-3
-unfolding binLookup
-returns-3 c = rw (← c .before .before .before .before .before .before .from-number .ensures, c .before .before .before .before .m .given .1, lt-ltb _ _ (rw (c .before .before .total-carriers .ensures) at (c .before .if1 .left)), ← c .carrier-bin .ensures)
+returns-3 c =
+    let known = c .before .before .before .before in
+    bin-found _ _ _ (sym (known .before .before .from-number .ensures) ∙ known .m .given .1) _ (omega arith) (c .carrier-bin .ensures)
 
 pub bin-lookup-spec : {M : Type 1} → statement M
 bin-lookup-spec =

@@ -19,10 +19,14 @@ sub-t5 : tie.Need-sub-t5
 sub-t5 c = omega (arith, sized (c .before .before .args .mode) .within)
 
 add-t6 : tie.Need-add-t6
-add-t6 c = omega (arith, sized (c .before .before .before .args .mode) .within, sized (c .before .before .before .args .mode) .fft-high, sized (c .before .before .before .args .mode) .band-high)
+add-t6 c =
+    let z = sized (c .before .before .before .args .mode) in
+    omega (arith, z .within, z .fft-high, z .band-high)
 
 rem-t7 : tie.Need-rem-t7
-rem-t7 c = omega (arith, sized (c .before .before .before .args .mode) .within, sized (c .before .before .before .args .mode) .band)
+rem-t7 c =
+    let z = sized (c .before .before .before .args .mode) in
+    omega (arith, z .within, z .band)
 
 returns : tie.Need-returns
 returns c = simp (c .before .total-carriers .ensures, c .before .before .fft-size .ensures)

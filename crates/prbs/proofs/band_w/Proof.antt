@@ -29,14 +29,17 @@ carriers-per-segment-requires c κs = search needs
 loop-holds : tie.Need-loop-holds Inv-loop μ-loop
 loop-holds c = begin _ _ _ _ _ (c .carriers-per-segment .ensures) (c .before .before .pre)
 
-mul-from : tie.Need-mul-from Inv-loop μ-loop
-mul-from c = omega (arith, part-ends _ _ _ _ _ _ _ (c .before .loop .inv) (c .loop-test .taken), part-small _ _ _ _ _ _ _ (c .before .loop .inv))
-
-add-to : tie.Need-add-to Inv-loop μ-loop
-add-to c = omega (arith, part-ends _ _ _ _ _ _ _ (c .before .loop .inv) (c .loop-test .taken), part-small _ _ _ _ _ _ _ (c .before .loop .inv))
-
 segment-at-position-requires : tie.Need-segment-at-position-requires Inv-loop μ-loop
 segment-at-position-requires c κs = c .loop-test .taken
+
+first-carrier-requires : tie.Need-first-carrier-requires Inv-loop μ-loop
+first-carrier-requires c κs = omega arith
+
+add-to : tie.Need-add-to Inv-loop μ-loop
+add-to c =
+    let t = c .before .before in
+    let w = t .before .loop .inv in
+    omega (arith, part-ends _ _ _ _ _ _ _ w _ (c .first-carrier .ensures) (t .loop-test .taken), part-small _ _ _ _ _ _ _ w)
 
 sub-segment-w : tie.Need-sub-segment-w Inv-loop μ-loop
 sub-segment-w c = omega arith
@@ -45,10 +48,16 @@ part-segment-w-start : tie.Need-part-segment-w-start Inv-loop μ-loop
 part-segment-w-start c = omega arith
 
 part-segment-w-end : tie.Need-part-segment-w-end Inv-loop μ-loop
-part-segment-w-end c = omega (arith, part-ends _ _ _ _ _ _ _ (c .before .before .loop .inv) (c .before .loop-test .taken), c .before .before .loop .inv .same-size)
+part-segment-w-end c =
+    let t = c .before .before in
+    let w = t .before .loop .inv in
+    omega (arith, part-ends _ _ _ _ _ _ _ w _ (c .first-carrier .ensures) (t .loop-test .taken), w .same-size)
 
 segment-w-requires : tie.Need-segment-w-requires Inv-loop μ-loop
-segment-w-requires c κs = (c .before .segment-at-position .ensures .1, part-size _ _ _ _ _ _ _ (c .before .before .before .loop .inv) (c .before .before .loop-test .taken))
+segment-w-requires c κs =
+    let f = c .before in
+    let t = f .before .before in
+    (f .before .segment-at-position .ensures .1, part-size _ _ _ _ _ _ _ (t .before .loop .inv) _ (f .first-carrier .ensures) (t .loop-test .taken))
 
 add-place : tie.Need-add-place Inv-loop μ-loop
 add-place c = omega arith
@@ -57,23 +66,33 @@ loop-less : tie.Need-loop-less Inv-loop μ-loop
 loop-less c = omega arith
 
 loop-again : tie.Need-loop-again Inv-loop μ-loop
-loop-again c = again _ _ _ _ _ _ _ (c .before .before .before .before .before .before .loop .inv) _ _ (c .before .before .before .before .before .loop-test .taken) (c .before .out .given .1) (c .before .before .segment-w .ensures ∙ ap (segmentSigns _) (c .before .before .before .before .segment-at-position .ensures .0)) refl
+loop-again c =
+    let s = c .before .before in
+    let f = s .before .before in
+    let t = f .before .before in
+    let e = s .segment-w .ensures ∙ ap (segmentSigns _) (f .before .segment-at-position .ensures .0) in
+    again _ _ _ _ _ _ _ (t .before .loop .inv) _ (f .first-carrier .ensures) (t .loop-test .taken) _ _ (c .before .out .given .1) e refl
+
+first-carrier-requires-2 : tie.Need-first-carrier-requires-2 Inv-loop μ-loop
+first-carrier-requires-2 c κs = search needs
 
 edge-w-requires : tie.Need-edge-w-requires Inv-loop μ-loop
 edge-w-requires c κs = search needs
 
-mul-out : tie.Need-mul-out Inv-loop μ-loop
-mul-out c = omega (arith, edge-inside _ _ _ _ _ _ _ (c .before .before .loop .inv), part-small _ _ _ _ _ _ _ (c .before .before .loop .inv))
-
 slice-write-out : tie.Need-slice-write-out Inv-loop μ-loop
-slice-write-out c = omega (arith, edge-inside _ _ _ _ _ _ _ (c .before .before .loop .inv), c .before .before .loop .inv .same-size)
+slice-write-out c =
+    let w = c .before .before .before .loop .inv in
+    omega (arith, edge-inside _ _ _ _ _ _ _ w _ (c .before .first-carrier2 .ensures), w .same-size)
 
 same-length : tie.Need-same-length Inv-loop μ-loop
-same-length c = simp length-set (c .before .before .loop .inv .same-size)
+same-length c = simp length-set (c .before .before .before .loop .inv .same-size)
 
 returns : tie.Need-returns Inv-loop μ-loop
 unfolding bandSigns
-returns c = rw (← c .edge-w .ensures) (finish _ _ _ _ _ _ _ (c .before .before .loop .inv) _ (c .before .loop-test .left))
+returns c =
+    let f = c .before in
+    rw (← c .edge-w .ensures)
+    (finish _ _ _ _ _ _ _ (f .before .before .loop .inv) _ (f .first-carrier2 .ensures) _ (f .before .loop-test .left))
 
 pub band-w-spec : {M : Type 1} → statement M
 band-w-spec =
@@ -83,9 +102,9 @@ band-w-spec =
     μ-loop
     carriers-per-segment-requires
     loop-holds
-    mul-from
-    add-to
     segment-at-position-requires
+    first-carrier-requires
+    add-to
     sub-segment-w
     part-segment-w-start
     part-segment-w-end
@@ -93,8 +112,8 @@ band-w-spec =
     add-place
     loop-less
     loop-again
+    first-carrier-requires-2
     edge-w-requires
-    mul-out
     slice-write-out
     same-length
     returns)
