@@ -17,20 +17,17 @@ use lib.Ieee.Exact.{HasValue}
 use lib.Ieee.Order.{round-mono}
 use lib.Ieee.Positive.{first-pos, positive-of-value, values-of-le}
 use lib.Ieee.Scale.{round-same}
-use Rattle.ieee.specs.Root.{rootDrop, rootKept, rootOf}
+use Rattle.ieee.specs.Root.{rootOf}
 use Rattle.ieee.specs.Narrow.{narrowOf}
 use Rattle.ieee.specs.Numbers.{le-multiple, shift, grows, size-gt}
 use Rattle.ieee.specs.Signs.{negative, round-sign}
 use Rattle.ieee.specs.Values.{zero-value, to-finer, sign-is}
 use Rattle.ieee.specs.Zeros.{round-zero}
-use Rattle.ieee.specs.Patterns.{units-fits}
 use Rattle.ieee.specs.Times.{Times}
 use Rattle.ieee.specs.Levels.{Level, Scaled, roomy, grain}
 use Rattle.ieee.specs.Gain.{no-overflow, exact, room, in-range, rounded, regrained}
-use Rattle.ieee.specs.RootUnits.{root-of-value}
-use Rattle.ieee.specs.RootNear.{root-units-is, kept-high}
 use Rattle.ieee.specs.RootBest.{rootValue, root-value-mono}
-use Rattle.ieee.specs.RootShift.{units-long, no-root, root-value, root-power, root-value-shift}
+use Rattle.ieee.specs.RootShift.{units-long, no-root, root-value, root-held, root-power, root-value-shift}
 
 -- a zero is at every level
 zero-level : (k : ℕ) (l : Level) (x y : Float) (t : Times (l .power * k) x y) → t .up ≡ 0 → Scaled l k x y
@@ -127,11 +124,7 @@ module _ (top k p : ℕ) (l : Level) (x y : Float) (K : k ≤ top) (R : T (roomy
       }
 
   root-fits : 0 < rootValue (units * 2 ^ 1074) → T (fits binary64 (rootOf x))
-  root-fits some =
-      let n = units * 2 ^ 1074 in
-      let q = counted units some in
-      subst (λ (z : Float). T (fits binary64 z)) (sym (root-of-value x units here q ∙ root-units-is n))
-      (units-fits binary64 false (rootKept n) (rootDrop n) (kept-high n (units-long units q)))
+  root-fits some = root-held x units here (counted units some)
 
 -- by values alone
 pub root-times : (top k p : ℕ) (l : Level) (x y : Float) → k ≤ top → T (roomy binary64 top l) → l .power ≡ p + p → negative x ≡ false → Scaled l k x y

@@ -2,19 +2,22 @@
 -- for whole numbers, then for an f64 of a units, which are 2 ^ -1074 each.
 -- Assumes nothing.
 use mathlib.Core.Path.{_≡_, refl, sym, ap, _∙_, subst}
-use mathlib.Core.Bool.{Bool, false}
+use mathlib.Core.Bool.{Bool, true, false}
 use mathlib.Core.Logic.{inl, inr}
 use Prim.Native.Nat.{ℕ, zero, suc, _+_, _-_, _*_, _/_, _^_, _≤_, _<_}
-use native.Mathlib.Nat.{le-trans, le-of-eq, le-of-lt, lt-of-lt-of-le, lt-of-le-of-lt, zero-mul, eq-zero-or-pos, zero-lt-suc, mul-comm, mul-assoc, mul-right-comm, mul-pos, mul-le-mul, mul-le-mul-right}
+use native.Mathlib.Nat.{le-trans, le-of-eq, le-of-lt, lt-of-lt-of-le, lt-of-le-of-lt, zero-mul, eq-zero-or-pos, zero-lt-suc}
+use native.Mathlib.Nat.{mul-comm, mul-assoc, mul-right-comm, mul-pos, mul-le-mul, mul-le-mul-right}
 use native.Mathlib.Omega.{arith}
-use lib.Dec.{ltb, lit<, lit≤}
+use lib.Dec.{T, ltb, lit<, lit≤}
 use lib.Pow.{pow-add, pow-pos, pow-mono, shl-lt}
-use lib.Ieee.{Float, nan, inf, fin, binary64, up, down, size}
+use lib.Ieee.{Float, nan, inf, fin, binary64, up, down, size, fits}
 use lib.Ieee.Digits.{size-lt, size-le, size-reaches}
-use lib.Ieee.Fits.{up-pos}
+use lib.Ieee.Fits.{up-pos, cond-fits, nan-fits, inf-fits}
 use lib.Ieee.Nearest.{div-same}
 use lib.Ieee.Exact.{HasValue, units-val}
 use Rattle.ieee.specs.Numbers.{ltb-scale, le-multiple, no-product, shift, size-gt}
+use Rattle.ieee.specs.Values.{low-fits, in-units}
+use Rattle.ieee.specs.Patterns.{units-fits}
 use Rattle.ieee.specs.Root.{more, wholeRoot, rootDrop, rootKept, rootOf}
 use Rattle.ieee.specs.RootUnits.{root-of-value}
 use Rattle.ieee.specs.RootNear.{root-units-is, kept-high}
@@ -147,3 +150,20 @@ root-value-shift a t = elim (eq-zero-or-pos a) [
       no-root (a * 2 ^ (t + t)) (ap (λ (x : ℕ). x * 2 ^ (t + t)) z ∙ zero-mul (2 ^ (t + t))) ∙ sym (ap (λ (x : ℕ). x * 2 ^ t) (no-root a z) ∙ zero-mul (2 ^ t))
   | inr p ↦ ap rootValue (mul-right-comm a (2 ^ (t + t)) (2 ^ 1074)) ∙ value-shift (a * 2 ^ 1074) t (units-long a p)
 ]
+
+-- it is an f64 itself
+pub root-held : (x : Float) (a : ℕ) → HasValue x false a (2 ^ 1074) → 0 < a → T (fits binary64 (rootOf x))
+root-held x a h p =
+    let n = a * 2 ^ 1074 in
+    subst (λ (z : Float). T (fits binary64 z)) (sym (root-of-value x a h p ∙ root-units-is n))
+    (units-fits binary64 false (rootKept n) (rootDrop n) (kept-high n (units-long a p)))
+
+pub root-fits : (x : Float) → T (fits binary64 x) → T (fits binary64 (rootOf x))
+unfolding rootOf
+root-fits nan t = nan-fits binary64
+root-fits (inf s) t = cond-fits binary64 s nan (inf false) (nan-fits binary64) (inf-fits binary64 false)
+root-fits (fin s zero e) t = t
+root-fits (fin true (suc m) e) t = nan-fits binary64
+root-fits (fin false (suc m) e) t =
+    let u = in-units 1074 (suc m) e (low-fits binary64 false (suc m) e t) in
+    root-held (fin false (suc m) e) (suc m * 2 ^ u .0) (refl, u .1) (mul-pos (zero-lt-suc m) (pow-pos (u .0)))
