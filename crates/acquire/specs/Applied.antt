@@ -1,6 +1,6 @@
 -- The function that changes spectra as demand 3 speaks of it: spectra of len pairs, negated, turned, amplified and moved round by s. It shows that
 -- the claim is about something: every change of every list exists, of spectra that are moved (`applied`), of spectra that are not (`in-place`),
--- and of samples, which are spectra of one pair (`taken`).
+-- also of samples, which are spectra of one pair.
 -- Assumes nothing.
 use Prim.Native.Nat.{ℕ, suc, _+_, _*_, _/_, _%_, _≤_, _<_}
 use mathlib.Core.Bool.{Bool, cond}
@@ -19,7 +19,6 @@ use Rattle.complex.specs.Complex.{Pair, pair}
 use Rattle.spectra.specs.Spectra.{pairAt}
 use Rattle.complex.specs.Changes.{Change, changedPair}
 use Rattle.spectra.specs.Changes.{Changed}
-use Rattle.guess.specs.Changed.{Taken}
 use Rattle.shift.specs.Shift.{movedBin}
 use Rattle.shift.specs.MovedBins.{moved-twice, moved-below}
 
@@ -96,16 +95,4 @@ in-place c len xs =
       pairs = λ j b J B.
           let stays : (b + 0) % len ≡ b = rw (add-zero b) (mod-eq-of-lt B) in
           ap (λ (z : ℕ). pairAt (changed c len (pos 0) xs) (j * len + z)) (sym stays) ∙ a .pairs j b J B;
-    }
-
--- the changes of the guess
-abbrev pub changedSamples : Bool → Bool → ℕ → List Float → List Float
-changedSamples negates turns gain = changed (record { negates = λ j. negates; turns = turns; gain = gain }) 1 (pos 0)
-
-pub taken : (negates turns : Bool) (gain : ℕ) (xs : List Float) → Taken negates turns gain xs (changedSamples negates turns gain xs)
-taken negates turns gain xs =
-    let a = in-place (record { negates = λ j. negates; turns = turns; gain = gain }) 1 xs in
-    record {
-      long = a .long;
-      pairs = λ i l. let at : i * 1 + 0 ≡ i = omega arith in rw at at (a .pairs i 0 l (omega arith));
     }
