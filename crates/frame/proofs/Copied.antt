@@ -8,21 +8,19 @@ use native.Mathlib.Numerals.{add-one}
 use native.Mathlib.Omega.{arith}
 use borrow.Author.Tests.{eq-eqb, ne-eqb, le-leb, lt-leb}
 use lib.Dec.{leb}
-use lib.ListN.{length, getD, take, drop, set, length-set, drop-of-length-le}
+use lib.ListN.{length, getD, take, drop, set, replicate, length-set, drop-of-length-le}
 use lib.Seq.{take-suc, take-suc-set, take-all}
 use Rattle.lists.specs.Tests.{allIn, allIn-stop, allIn-pass}
 use Rattle.params.specs.declared.Mode.{Mode}
+use Rattle.params.specs.declared.Mode.the-variants.{M1}
 use Rattle.params.specs.declared.ModeNumber.{ModeNumber}
 use Rattle.params.specs.declared.ModeNumber.the-variants.{Known, Unknown}
-use Rattle.frame.specs.Operations.{layoutCode}
+use Rattle.frame.specs.Operations.{areKinds, layoutCode, layoutMode, layoutKinds}
 use Rattle.frame.specs.Inner.{AcceptedKinds, AcceptedLayout}
 
-never : {A : Type 0} → false ≡ true → A
-never e = absurd (let z : _≡_ {A = ℕ} 0 1 = cc in omega arith)
-
 -- not thirteen
-pub miscounted : (kinds read : List ℕ) → (length kinds ≡ 13 → ⊥) → AcceptedKinds kinds false read
-miscounted kinds read h = record { test = sym (rw (ne-eqb (length kinds) 13 h)); same = λ e. never e }
+pub miscounted : (kinds : List ℕ) → (length kinds ≡ 13 → ⊥) → AcceptedKinds kinds false (replicate 13 0)
+miscounted kinds h = record { test = rw (ne-eqb (length kinds) 13 h); held = rw (ne-eqb (length kinds) 13 h) }
 
 module _ (kinds : List ℕ) where
   pub record Reading (i : ℕ) (read : List ℕ) : Type 0 where
@@ -43,33 +41,54 @@ module _ (kinds : List ℕ) where
           rest = r .rest ∙ allIn-pass (λ k. leb k 1) kinds i (omega (arith, r .all)) (le-leb _ _ good);
         }
 
+    tested : (b : Bool) → allIn (λ k. leb k 1) (drop i kinds) ≡ b → areKinds kinds ≡ b
+    tested b e = rw (eq-eqb (length kinds) 13 (r .all)) (r .rest ∙ e)
+
     -- a byte that is no kind
-    pub no-kind : i < 13 → 1 < getD kinds i 0 → AcceptedKinds kinds false read
+    pub no-kind : i < 13 → 1 < getD kinds i 0 → AcceptedKinds kinds false (replicate 13 0)
     no-kind h bad =
-        record {
-          test = sym (rw (eq-eqb (length kinds) 13 (r .all)) (r .rest ∙ allIn-stop (λ k. leb k 1) kinds i (omega (arith, r .all)) (lt-leb _ _ bad)));
-          same = λ e. never e;
-        }
+        let e = tested false (allIn-stop (λ k. leb k 1) kinds i (omega (arith, r .all)) (lt-leb _ _ bad)) in
+        record { test = sym e; held = rw e }
 
     pub all-read : 13 ≤ i → AcceptedKinds kinds true read
     all-read h =
         let k : length kinds ≤ i = omega (arith, r .all) in
         let l : length read ≤ i = omega (arith, r .size) in
-        record {
-          test = sym (rw (eq-eqb (length kinds) 13 (r .all)) (r .rest ∙ ap (allIn (λ k. leb k 1)) (drop-of-length-le kinds k)));
-          same = λ e. sym (take-all i read l) ∙ (r .front ∙ take-all i kinds k);
-        }
+        let e = tested true (ap (allIn (λ k. leb k 1)) (drop-of-length-le kinds k)) in
+        record { test = sym e; held = rw e (sym (take-all i read l) ∙ (r .front ∙ take-all i kinds k)) }
 
 -- a mode and its kinds: refused by the mode, by the kinds, or accepted
-module _ (number : ModeNumber) (kinds : List ℕ) (m : Mode) (read : List ℕ) where
-  pub bad-mode : number ≡ Unknown → AcceptedLayout number kinds 1 m read
-  unfolding layoutCode
-  bad-mode e = record { refusal = rw e; known = λ z. absurd (omega arith); same = λ z. absurd (omega arith) }
+module _ (number : ModeNumber) (kinds : List ℕ) where
+  pub bad-mode : number ≡ Unknown → AcceptedLayout number kinds 1 M1 (replicate 13 0)
+  unfolding layoutCode layoutMode layoutKinds
+  bad-mode e =
+      record {
+        refusal = rw e;
+        holds-mode = rw e;
+        holds-kinds = rw e;
+        known = λ z. absurd (omega arith);
+        same = λ z. absurd (omega arith);
+      }
 
-  pub bad-kinds : (good : Bool) → number ≡ Known m → good ≡ false → AcceptedKinds kinds good read → AcceptedLayout number kinds 2 m read
-  unfolding layoutCode
-  bad-kinds good e b a = record { refusal = rw (e, ← a .test, b); known = λ z. absurd (omega arith); same = λ z. absurd (omega arith) }
+  module _ (m : Mode) (read : List ℕ) (good : Bool) (e : number ≡ Known m) (a : AcceptedKinds kinds good read) where
+    pub bad-kinds : good ≡ false → AcceptedLayout number kinds 2 m read
+    unfolding layoutCode layoutMode layoutKinds
+    bad-kinds b =
+        record {
+          refusal = rw (e, ← a .test, b);
+          holds-mode = rw e;
+          holds-kinds = rw e (a .held);
+          known = λ z. absurd (omega arith);
+          same = λ z. absurd (omega arith);
+        }
 
-  pub accepted : (good : Bool) → number ≡ Known m → good ≡ true → AcceptedKinds kinds good read → AcceptedLayout number kinds 0 m read
-  unfolding layoutCode
-  accepted good e b a = record { refusal = rw (e, ← a .test, b); known = λ z. e; same = λ z. a .same b }
+    pub accepted : good ≡ true → AcceptedLayout number kinds 0 m read
+    unfolding layoutCode layoutMode layoutKinds
+    accepted b =
+        record {
+          refusal = rw (e, ← a .test, b);
+          holds-mode = rw e;
+          holds-kinds = rw e (a .held);
+          known = λ z. e;
+          same = λ z. a .held ∙ rw (sym (a .test) ∙ b);
+        }

@@ -2,7 +2,7 @@
 -- from them to `Roles` are in proofs/.
 -- Assumes nothing.
 use Prim.Native.Nat.{ℕ, _≤_, _<_}
-use mathlib.Core.Bool.{Bool, true, cond}
+use mathlib.Core.Bool.{Bool, cond}
 use mathlib.Core.List.{List, [], _∷_}
 use mathlib.Core.Path.{_≡_}
 use lib.ListN.{length, getD, take, set}
@@ -15,7 +15,7 @@ use Rattle.tables.specs.declared.Positions.{Positions}
 use Rattle.tables.specs.Places.{isSp, isCp}
 use Rattle.frame.specs.declared.CarrierRole.the-variants.{Data, Sp, Cp}
 use Rattle.frame.specs.Roles.{roleByte}
-use Rattle.frame.specs.Operations.{areKinds, layoutCode}
+use Rattle.frame.specs.Operations.{areKinds, heldKinds, layoutCode, layoutMode, layoutKinds}
 
 -- the role byte of a place as far as pilots decide it
 abbrev pub pilotByte : SegmentKind → ℕ → ℕ → ℕ
@@ -40,13 +40,15 @@ pub record InSegment (mode : Mode) (row phase : ℕ) (out : List ℕ) : Type 0 w
   pub phase-below : phase < 4
   pub room : length out ≡ carriersPerSegment mode
 
--- kinds from outside are good, and were read
+-- kinds from outside: whether they are good, and what a layout holds of them
 pub record AcceptedKinds (kinds : List ℕ) (good : Bool) (read : List ℕ) : Type 0 where
   pub test : good ≡ areKinds kinds
-  pub same : good ≡ true → read ≡ kinds
+  pub held : read ≡ heldKinds kinds
 
--- a layout's refusal, and what an accepted one holds
+-- a layout's refusal, what it holds for every input, and what an accepted one holds
 pub record AcceptedLayout (number : ModeNumber) (kinds : List ℕ) (code : ℕ) (mode : Mode) (read : List ℕ) : Type 0 where
   pub refusal : code ≡ layoutCode number kinds
+  pub holds-mode : mode ≡ layoutMode number
+  pub holds-kinds : read ≡ layoutKinds number kinds
   pub known : code ≡ 0 → number ≡ Known mode
   pub same : code ≡ 0 → read ≡ kinds

@@ -6,10 +6,11 @@ use mathlib.Core.Bool.{Bool, cond, _&&_}
 use mathlib.Core.List.{List}
 use mathlib.Core.Path.{_≡_}
 use lib.Dec.{eqb, leb, ltb}
-use lib.ListN.{length}
+use lib.ListN.{length, replicate}
 use Rattle.lists.specs.Refusals.{unless}
 use Rattle.lists.specs.Tests.{allIn}
 use Rattle.params.specs.declared.Mode.{Mode}
+use Rattle.params.specs.declared.Mode.the-variants.{M1}
 use Rattle.params.specs.declared.ModeNumber.{ModeNumber}
 use Rattle.params.specs.declared.ModeNumber.the-variants.{Known, Unknown}
 use Rattle.params.specs.Params.{totalCarriers}
@@ -23,6 +24,19 @@ areKinds kinds = eqb (length kinds) 13 && allIn (λ k. leb k 1) kinds
 unfoldable pub layoutCode : ModeNumber → List ℕ → ℕ
 layoutCode Unknown kinds = 1
 layoutCode (Known m) kinds = unless (areKinds kinds) 2 0
+
+-- the kinds that a layout holds: those given, or thirteen zeros where they are refused
+abbrev pub heldKinds : List ℕ → List ℕ
+heldKinds kinds = cond (areKinds kinds) kinds (replicate 13 0)
+
+-- the layout of a mode and its kinds, beside a refusal too: mode 1 and thirteen zeros where the mode is bad
+unfoldable pub layoutMode : ModeNumber → Mode
+layoutMode Unknown = M1
+layoutMode (Known m) = m
+
+unfoldable pub layoutKinds : ModeNumber → List ℕ → List ℕ
+layoutKinds Unknown kinds = replicate 13 0
+layoutKinds (Known m) kinds = heldKinds kinds
 
 -- an operation on a mode, a phase and kinds: 1; 2; 3; 7 unless the output has as many entries as the mode asks
 unfoldable pub symbolCode : (Mode → ℕ) → ModeNumber → ℕ → List ℕ → ℕ → ℕ

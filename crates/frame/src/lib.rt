@@ -6,17 +6,15 @@
 // carrier 0 of segment 11, the lowest place, up to the edge carrier above segment 12.
 // Kinds come in segment-number order. A refusal is a number and leaves the lent buffer untouched.
 ghost use mathlib.Core.Path.{_≡_};
-ghost use Prim.Native.Nat.{_<_, _+_, _*_};
+ghost use Prim.Native.Nat.{_<_};
 ghost use lib.ListN.{length, getD};
 ghost use Rattle.lists.specs.Lists.{upTo};
-ghost use Rattle.params.specs.Params.{modeFrom, carriersPerSegment, totalCarriers, kindFrom};
+ghost use Rattle.params.specs.Params.{modeFrom, totalCarriers, kindFrom};
 ghost use Rattle.params.specs.declared.SegmentKind.the-variants.{Coherent};
 ghost use Rattle.tables.specs.Places.{isSp};
-ghost use Rattle.ofdm.specs.Band.{placeOf};
-ghost use Rattle.frame.specs.Roles.{roleByte, ofdmSegment, segmentRoles, bandRoles, wide};
+ghost use Rattle.frame.specs.Roles.{roleByte, ofdmSegment, segmentRoles, bandRoles, wide, between};
 ghost use Rattle.frame.specs.Inner.{pilotByte, marked, Markable, InSegment, AcceptedKinds, AcceptedLayout};
 ghost use Rattle.frame.specs.Operations.{RoleMap};
-use ofdm::BandCarrier;
 use ofdm::BandPlace;
 use ofdm::Segment;
 use ofdm::SegmentPlace;
@@ -70,6 +68,16 @@ pub fn is_sp(p: SegmentPlace, phase: u8) -> bool
     ensures { λ r. ⌜ r ≡ isSp Coherent phase (p .0) ⌝ }
 {
     p.0 % 12 == 3 * (phase as usize)
+}
+
+// Whether a byte lies from low to high.
+pub fn is_between(low: u8, high: u8, b: u8) -> bool
+    ensures { λ r. ⌜ r ≡ between low high b ⌝ }
+{
+    if b < low {
+        return false;
+    }
+    b <= high
 }
 
 // The role byte of a place so far as pilots decide it: the rest is data until the tables are marked.
@@ -151,13 +159,13 @@ pub struct FrameLayout {
     pub kinds: [u8; 13],
 }
 
-// Kinds from outside: whether they are thirteen of 0 or 1, and those read so far.
+// Kinds from outside: whether they are thirteen of 0 or 1, and then these, else zeros.
 struct KindsRead {
     good: bool,
     kinds: [u8; 13],
 }
 
-// The refusal of a mode and its kinds, or 0 and the layout.
+// The refusal of a mode and its kinds, or 0 and the layout. Beside a refusal the layout is all coherent.
 pub struct NewLayout {
     pub code: u8,
     pub layout: FrameLayout,
@@ -166,20 +174,20 @@ pub struct NewLayout {
 fn read_kinds(kinds: &[u8]) -> KindsRead
     ensures { λ r. ⌜ AcceptedKinds (now (kinds .entry)) (r .good) (r .kinds) ⌝ }
 {
-    let mut read = [0u8; 13];
     if kinds.len() != 13 {
         return KindsRead {
             good: false,
-            kinds: read,
+            kinds: [0; 13],
         };
     }
+    let mut read = [0u8; 13];
     let mut i: usize = 0;
     while i < 13 {
         let kind = kinds[i];
         if 1 < kind {
             return KindsRead {
                 good: false,
-                kinds: read,
+                kinds: [0; 13],
             };
         }
         read[i] = kind;
@@ -192,7 +200,8 @@ fn read_kinds(kinds: &[u8]) -> KindsRead
 }
 
 impl FrameLayout {
-    // Refused by 1 for a bad mode, by 2 unless there are thirteen kinds of 0 or 1.
+    // Refused by 1 for a bad mode, by 2 unless there are thirteen kinds of 0 or 1. A refused layout
+    // holds thirteen zeros, and mode 1 where the mode is bad.
     pub fn new(mode: u8, kinds: &[u8]) -> NewLayout
         ensures { λ r. ⌜ AcceptedLayout (modeFrom mode) (now (kinds .entry)) (r .code) (r .layout .mode) (r .layout .kinds) ⌝ }
     {
@@ -233,15 +242,6 @@ impl FrameLayout {
         SegmentKind::from_code(kinds[number])
     }
 
-    // The carrier at place p of a segment.
-    pub fn carrier(self, seg: Segment, p: SegmentPlace) -> BandCarrier
-        requires { ⌜ (seg .0 < 13) × (p .0 < carriersPerSegment (self .mode)) ⌝ }
-        ensures { λ r. ⌜ r .0 ≡ placeOf (seg .0) * carriersPerSegment (self .mode) + p .0 ⌝ }
-    {
-        let mode = self.mode;
-        ofdm::band_carrier(mode, ofdm::segment_position(seg), p)
-    }
-
     // Role bytes of all carriers of the band, segment after segment from the lowest place.
     pub fn roles(self, phase: u8, out: &mut [u8])
         requires { ⌜ (phase < 4) × (length (now out) ≡ totalCarriers (self .mode)) ⌝ }
@@ -251,13 +251,14 @@ impl FrameLayout {
         let c = mode.carriers_per_segment();
         let mut place: usize = 0;
         while place < 13 {
-            let from = place * c;
-            let to = from + c;
             let seg = ofdm::segment_at_position(BandPlace(place));
+            let from = ofdm::first_carrier(mode, BandPlace(place)).0;
+            let to = from + c;
             segment_roles(mode, seg, self.kind(seg), phase, &mut out[from..to]);
             place += 1;
         }
-        out[13 * c] = CarrierRole::EdgeCp.byte();
+        let edge = ofdm::first_carrier(mode, BandPlace(13)).0;
+        out[edge] = CarrierRole::EdgeCp.byte();
     }
 }
 

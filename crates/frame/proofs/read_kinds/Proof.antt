@@ -15,7 +15,7 @@ abbrev μ-loop : tie.MeasureT-loop
 μ-loop kinds read₀ i₀ read i = 13 - i
 
 returns : tie.Need-returns Inv-loop μ-loop
-returns c = miscounted _ _ (c .if1 .taken)
+returns c = miscounted _ (c .if1 .taken)
 
 loop-holds : tie.Need-loop-holds Inv-loop μ-loop
 loop-holds c = record { passed = search needs; all = c .if1 .left; size = refl; front = refl; rest = refl }

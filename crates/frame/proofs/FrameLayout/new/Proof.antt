@@ -17,16 +17,22 @@ enum-told : tie.Need-enum-told
 enum-told c = search needs
 
 returns : tie.Need-returns
-returns c = bad-mode _ _ _ _ (sym (c .before .before .from-number .ensures) ∙ c .enum-told .given .1)
+returns c = bad-mode _ _ (sym (c .before .before .from-number .ensures) ∙ c .enum-told .given .1)
 
 read-kinds-requires : tie.Need-read-kinds-requires
 read-kinds-requires c κs = search needs
 
 returns-2 : tie.Need-returns-2
-returns-2 c = bad-kinds _ _ _ _ _ (sym (c .before .before .before .before .before .before .before .from-number .ensures) ∙ c .before .before .before .before .before .m .given .1) (not-true _ (c .if1 .taken)) (c .before .before .before .read-kinds .ensures)
+returns-2 c =
+    let r = c .before .before .before in
+    let known = r .before .before in
+    bad-kinds _ _ _ _ _ (sym (known .before .before .from-number .ensures) ∙ known .m .given .1) (r .read-kinds .ensures) (not-true _ (c .if1 .taken))
 
 returns-3 : tie.Need-returns-3
-returns-3 c = accepted _ _ _ _ _ (sym (c .before .before .before .before .before .before .before .from-number .ensures) ∙ c .before .before .before .before .before .m .given .1) (not-false _ (c .if1 .left)) (c .before .before .before .read-kinds .ensures)
+returns-3 c =
+    let r = c .before .before .before in
+    let known = r .before .before in
+    accepted _ _ _ _ _ (sym (known .before .before .from-number .ensures) ∙ known .m .given .1) (r .read-kinds .ensures) (not-false _ (c .if1 .left))
 
 pub new-spec : {M : Type 1} → statement M
 new-spec =

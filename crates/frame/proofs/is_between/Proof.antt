@@ -1,8 +1,8 @@
--- `carrier_lists::is_between` meets its contract: the two tests of the definition.
+-- `frame::is_between` meets its contract: the two tests of the definition.
 -- Assumes nothing.
 use borrow.Author.Tests.{lt-leb, le-leb}
-use Rattle.carrier_lists.proofs.is_between.Statement.{statement}
-use Rattle.carrier_lists.proofs.is_between.Tie as tie
+use Rattle.frame.proofs.is_between.Statement.{statement}
+use Rattle.frame.proofs.is_between.Tie as tie
 
 returns : tie.Need-returns
 returns c = simp (lt-leb _ _ (c .if1 .taken))
