@@ -141,7 +141,7 @@ module _ (c : Change) (mode : Mode) (bound : ℕ) (s : ℤ) (xs ys old : List Fl
   unfolding shiftAnswer
   not-moved z =
       let same : codeOf xs ≡ 0 → best ys ≡ best xs = λ e. same-winner n bins (pattern-laid mode) bound (binRatios n xs) (binRatios n ys)
-          (subst (λ (k : ℤ). MovedRound n k (binRatios n xs) (binRatios n ys)) z (moved-ratios (few-spectra e))) in
+      (subst (λ (k : ℤ). MovedRound n k (binRatios n xs) (binRatios n ys)) z (moved-ratios (few-spectra e))) in
       ap (λ (k : ℕ). cond (eqb k 0) (Found (foundOf bins (best ys))) (Refused k)) shift-code
       ∙ accepted (codeOf xs) _ _ (Refused (codeOf xs)) (λ e. ap (λ (w : Winner). Found (foundOf bins w)) (same e))
 
@@ -152,8 +152,8 @@ module _ (c : Change) (mode : Mode) (bound : ℕ) (s : ℤ) (xs ys old : List Fl
       let q : foundOf bins (best xs) ≡ found = ap (λ r. foundIn r found) (sym (won xs a) ∙ e) in
       let Z : best xs .shift ≡ found .shift = ap (λ (f : FoundShift). f .shift) q in
       let b : BeatsAll n bins (binRatios n xs) (bound + natAbs s) (best xs .shift) =
-          subst (λ (z : ℤ). BeatsAll n bins (binRatios n xs) (bound + natAbs s) z) (sym Z)
-          (subst (λ (r : List Float). BeatsAll n bins r (bound + natAbs s) (found .shift)) (leaves xs a) beats) in
+      subst (λ (z : ℤ). BeatsAll n bins (binRatios n xs) (bound + natAbs s) z) (sym Z)
+      (subst (λ (r : List Float). BeatsAll n bins r (bound + natAbs s) (found .shift)) (leaves xs a) beats) in
       let i : InRange bound (best xs .shift +ℤ s) = subst (λ (z : ℤ). InRange bound (z +ℤ s)) (sym Z) inside in
       let m = moved-winner n bins (pattern-laid mode) bound s (binRatios n xs) (binRatios n ys) (ratios-no-minus n xs) (moved-ratios (few-spectra a)) b i in
       won ys (shift-code ∙ a)
@@ -199,7 +199,8 @@ module _ (negates : Bool) (c : Change) (modes guards : List ℕ) (room : ℕ) (x
   abbrev after : GuardSearch → GuardSearch
   after = louder (c .gain)
 
-  outside : (b : Bool) → cond b (after (guessed xs modes guards)) (search.Refused (searchCode xs)) ≡ after (cond b (guessed xs modes guards) (search.Refused (searchCode xs)))
+  outside : (b : Bool) → cond b (after (guessed xs modes guards)) (search.Refused (searchCode xs))
+      ≡ after (cond b (guessed xs modes guards) (search.Refused (searchCode xs)))
   outside true = refl
   outside false = refl
 
@@ -208,7 +209,7 @@ module _ (negates : Bool) (c : Change) (modes guards : List ℕ) (room : ℕ) (x
   guess-kept A h =
       let code : searchCode ys ≡ searchCode xs = ap (λ (k : ℕ). guessCode modes guards k room) (h .long) in
       let inner : searchCode xs ≡ 0 → guessed ys modes guards ≡ after (guessed xs modes guards) =
-          λ e. let p = modes-few modes guards (length xs) room e in changed-guess negates c xs ys modes guards (p .0) (p .1) A h in
+      λ e. let p = modes-few modes guards (length xs) room e in changed-guess negates c xs ys modes guards (p .0) (p .1) A h in
       ap (λ (k : ℕ). cond (eqb k 0) (guessed ys modes guards) (search.Refused k)) code
       ∙ accepted (searchCode xs) (guessed ys modes guards) (after (guessed xs modes guards)) (search.Refused (searchCode xs)) inner
       ∙ outside (eqb (searchCode xs) 0)

@@ -1,6 +1,6 @@
 -- The function that changes spectra as demand 3 speaks of it: spectra of len pairs, negated, turned, amplified and moved round by s. It shows that
--- the claim is about something: every change of every list exists, of spectra that are moved (`applied`), of spectra that are not (`in-place`),
--- also of samples, which are spectra of one pair.
+-- the claim is about something: every change of every list exists, of spectra that are moved (`applied`) and of those that are not (`in-place`);
+-- samples are spectra of one pair.
 -- Assumes nothing.
 use Prim.Native.Nat.{ℕ, suc, _+_, _*_, _/_, _%_, _≤_, _<_}
 use mathlib.Core.Bool.{Bool, cond}
@@ -48,7 +48,8 @@ unfolding changed
 pair-changed c len s xs k h =
     let f : ℕ → Float = λ q. cond (eqb (q % 2) 0) (changedAt c len s xs (q / 2) .re) (changedAt c len s xs (q / 2) .im) in
     let r : getD (upTo f (length xs)) (2 * k) nan ≡ changedAt c len s xs k .re = getD-upTo f (length xs) (2 * k) nan (omega arith) ∙ rw (even-part k, even k) refl in
-    let i : getD (upTo f (length xs)) (2 * k + 1) nan ≡ changedAt c len s xs k .im = getD-upTo f (length xs) (2 * k + 1) nan h ∙ rw (odd-part k, odd k) refl in
+    let i : getD (upTo f (length xs)) (2 * k + 1) nan ≡ changedAt c len s xs k .im =
+    getD-upTo f (length xs) (2 * k + 1) nan h ∙ rw (odd-part k, odd k) refl in
     λ j. pair (r j) (i j)
 
 -- spectrum j, bin b: where the pair stands, and what stands there
