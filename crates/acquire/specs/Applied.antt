@@ -47,7 +47,8 @@ pair-changed : (c : Change) (len : ℕ) (s : ℤ) (xs : List Float) (k : ℕ) �
 unfolding changed
 pair-changed c len s xs k h =
     let f : ℕ → Float = λ q. cond (eqb (q % 2) 0) (changedAt c len s xs (q / 2) .re) (changedAt c len s xs (q / 2) .im) in
-    let r : getD (upTo f (length xs)) (2 * k) nan ≡ changedAt c len s xs k .re = getD-upTo f (length xs) (2 * k) nan (omega arith) ∙ rw (even-part k, even k) refl in
+    let r : getD (upTo f (length xs)) (2 * k) nan ≡ changedAt c len s xs k .re =
+    getD-upTo f (length xs) (2 * k) nan (omega arith) ∙ rw (even-part k, even k) refl in
     let i : getD (upTo f (length xs)) (2 * k + 1) nan ≡ changedAt c len s xs k .im =
     getD-upTo f (length xs) (2 * k + 1) nan h ∙ rw (odd-part k, odd k) refl in
     λ j. pair (r j) (i j)
