@@ -15,13 +15,14 @@ use Rattle.params.specs.declared.ModeNumber.the-variants.{Known, Unknown}
 use Rattle.frame.specs.Operations.{areKinds, layoutCode}
 use Rattle.frame.specs.Inner.{AcceptedLayout}
 use Rattle.frame.specs.Answers.{kinds-good}
+use Rattle.chanest.specs.declared.Current.{Current}
 use Rattle.chanest.specs.Grid.{grid, windowCode, gridCode, gridLeaves, GridEstimated}
 
-module _ {number : ModeNumber} {kinds : List ℕ} {code : ℕ} {m : Mode} {read : List ℕ} (a : AcceptedLayout number kinds code m read) (phase : ℕ) (xs : List Float) (t w : ℕ) (old : List Float) where
+module _ {number : ModeNumber} {kinds : List ℕ} {code : ℕ} {m : Mode} {read : List ℕ} (a : AcceptedLayout number kinds code m read) (xs : List Float) (current : Current) (old : List Float) where
   abbrev codeOf : ModeNumber → ℕ
-  codeOf k = gridCode k phase kinds (length xs) t w (length old)
+  codeOf k = gridCode k kinds (length xs) current (length old)
 
-  refused : (k : ModeNumber) (n : ℕ) → n ≡ codeOf k → (n ≡ 0 → ⊥) → GridEstimated k phase kinds xs t w old n old
+  refused : (k : ModeNumber) (n : ℕ) → n ≡ codeOf k → (n ≡ 0 → ⊥) → GridEstimated k kinds xs current old n old
   unfolding gridLeaves
   refused Unknown n e h = record { code = e; leaves = refl }
   refused (Known m) n e h =
@@ -34,23 +35,23 @@ module _ {number : ModeNumber} {kinds : List ℕ} {code : ℕ} {m : Mode} {read 
   layout-first Unknown h = refl
   layout-first (Known m) h = by (areKinds kinds) h
     where
-      by : (b : Bool) → (_≡_ {A = ℕ} (unless b 2 0) 0 → ⊥) → unless b 2 0 ≡ unless b 2 (windowCode m phase (length xs) t w (length old))
+      by : (b : Bool) → (_≡_ {A = ℕ} (unless b 2 0) 0 → ⊥) → unless b 2 0 ≡ unless b 2 (windowCode m (length xs) current (length old))
       by true h = absurd (h refl)
       by false h = refl
 
-  pub bad-layout : (code ≡ 0 → ⊥) → GridEstimated number phase kinds xs t w old code old
+  pub bad-layout : (code ≡ 0 → ⊥) → GridEstimated number kinds xs current old code old
   bad-layout h = refused number code (a .refusal ∙ layout-first number (λ e. h (a .refusal ∙ e))) h
 
   -- an accepted layout, and the code of the other numbers
-  module _ (z : code ≡ 0) {n : ℕ} (e : n ≡ windowCode m phase (length xs) t w (length old)) where
+  module _ (z : code ≡ 0) {n : ℕ} (e : n ≡ windowCode m (length xs) current (length old)) where
     told : n ≡ codeOf (Known m)
     unfolding gridCode
     told = rw (kinds-good number kinds code m read a z) e
 
-    pub bad-numbers : (n ≡ 0 → ⊥) → GridEstimated number phase kinds xs t w old n old
+    pub bad-numbers : (n ≡ 0 → ⊥) → GridEstimated number kinds xs current old n old
     bad-numbers h = rw (a .known z) (refused (Known m) n told h)
 
-    pub answered : {now : List Float} → n ≡ 0 → now ≡ grid m phase read xs t w old → GridEstimated number phase kinds xs t w old 0 now
+    pub answered : {now : List Float} → n ≡ 0 → now ≡ grid m read xs current old → GridEstimated number kinds xs current old 0 now
     unfolding gridLeaves
     answered o p =
         let none : eqb (codeOf (Known m)) 0 ≡ true = eq-eqb _ 0 (sym told ∙ o) in

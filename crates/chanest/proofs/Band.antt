@@ -51,7 +51,7 @@ module _ (plan : Plan) (kinds : List ℕ) (xs entry : List Float) where
   n = segmentPoints (plan .mode)
 
   abbrev pub value : ℕ → Pair
-  value i = gridPoint (plan .mode) (plan .phase) kinds xs (plan .win .index) (plan .win .w) (pairAt entry i) i
+  value i = gridPoint (plan .mode) kinds xs (plan .win .current) (pairAt entry i) i
 
   some : 0 < n
   some = omega (arith, sized (plan .mode) .carriers-low)

@@ -13,35 +13,36 @@ use Rattle.params.specs.declared.Mode.{Mode}
 use Rattle.params.specs.Params.{totalCarriers}
 use Rattle.params.specs.Laws.{sized}
 use Rattle.prbs.specs.Signs.{bandSigns}
+use Rattle.chanest.specs.declared.Current.{Current}
 use Rattle.chanest.specs.declared.Window.{Window}
 use Rattle.chanest.specs.declared.Plan.{Plan}
 use Rattle.chanest.specs.Grid.{windowCode, atLeastOne, grid}
 use Rattle.chanest.specs.Inner.{Usable, Planned, Spanned, Writable, gridBy}
 use Rattle.chanest.specs.Codes.{Accepted, accepted}
 
-at-least : (w : ℕ) → w ≤ 64 → (0 < atLeastOne w) × (atLeastOne w ≤ 64)
-at-least w h = by (decLt 0 w)
+at-least : (current : Current) → current .w ≤ 64 → (0 < atLeastOne current .w) × (atLeastOne current .w ≤ 64)
+at-least current h = by (decLt 0 (current .w))
   where
-    by : Dec (0 < w) → (0 < atLeastOne w) × (atLeastOne w ≤ 64)
-    by (yes p) = rw (ne-eqb w 0 (λ e. omega arith)) (p, h)
-    by (no p) = rw (eq-eqb w 0 (omega arith)) (omega arith, omega arith)
+    by : Dec (0 < current .w) → (0 < atLeastOne current .w) × (atLeastOne current .w ≤ 64)
+    by (yes p) = rw (ne-eqb (current .w) 0 (λ e. omega arith)) (p, h)
+    by (no p) = rw (eq-eqb (current .w) 0 (omega arith)) (omega arith, omega arith)
 
--- k carriers a spectrum, u for w
-module _ (mode : Mode) (phase t w : ℕ) (xs out : List Float) (z : windowCode mode phase (length xs) t w (length out) ≡ 0)
-    {k : ℕ} (size : k ≡ totalCarriers mode) {u : ℕ} (e : u ≡ atLeastOne w) where
+-- k carriers a spectrum
+module _ (mode : Mode) (xs : List Float) (current : Current) (out : List Float) (z : windowCode mode (length xs) current (length out) ≡ 0)
+    {k : ℕ} (size : k ≡ totalCarriers mode) {counted : Current} (e : counted ≡ atLeastOne current) where
   abbrev win : Window
-  win = record { len = k; count = length xs / (2 * k); index = t; w = u }
+  win = record { len = k; count = length xs / (2 * k); current = counted }
 
-  a : Accepted mode phase (length xs) t w (length out)
-  a = accepted mode phase (length xs) t w (length out) z
+  a : Accepted mode (length xs) current (length out)
+  a = accepted mode (length xs) current (length out) z
 
   pub usable : Usable win
   usable =
       record {
-        current = rw size (a .inside);
+        current = rw (e, size) (a .inside);
         few = rw size (a .few);
-        wide = rw e (at-least w (a .short) .0);
-        short = rw e (at-least w (a .short) .1);
+        wide = rw e (at-least current (a .short) .0);
+        short = rw e (at-least current (a .short) .1);
       }
 
   spanned : Spanned win (length xs)
@@ -55,14 +56,14 @@ module _ (mode : Mode) (phase t w : ℕ) (xs out : List Float) (z : windowCode m
         narrow = omega (arith, size, sized mode .band-high);
       }
 
-  module _ {plan : Plan} (p : Planned mode phase win plan) where
+  module _ {plan : Plan} (p : Planned mode win plan) where
     band : k ≡ totalCarriers (plan .mode)
     band = size ∙ sym (ap totalCarriers (p .same-mode))
 
     pub writable : {signs : List ℕ} → signs ≡ bandSigns mode → Writable plan xs signs out
     writable s =
         record {
-          phase = rw (p .same-phase) (a .cycle);
+          phase = rw (p .same-window, e) (a .cycle);
           len = ap (λ (v : Window). v .len) (p .same-window) ∙ band;
           count = ap (λ (v : Window). v .count) (p .same-window) ∙ ap (λ (j : ℕ). length xs / (2 * j)) band;
           spanned = rw (p .same-window) spanned;
@@ -72,5 +73,5 @@ module _ (mode : Mode) (phase t w : ℕ) (xs out : List Float) (z : windowCode m
           room = rw (p .same-mode) (a .room);
         }
 
-    pub same-grid : (kinds : List ℕ) → gridBy plan kinds xs out ≡ grid mode phase kinds xs t w out
-    same-grid kinds = rw (p .same-mode, p .same-phase, p .same-window, e)
+    pub same-grid : (kinds : List ℕ) → gridBy plan kinds xs out ≡ grid mode kinds xs current out
+    same-grid kinds = rw (p .same-mode, p .same-window, e)

@@ -33,16 +33,16 @@ pointed M3 = record { carriers = refl; all = refl }
 
 -- the estimate at carrier k of a window, whose pilot is sent at the offsets ds
 abbrev pub windowAt : Window → List Float → List ℕ → ℕ → List ℤ → Pair
-windowAt win xs signs k ds = estimateOf (win .len) xs (win .index) k (inverseOf (getD signs k 0)) (inWindow (win .count) (win .index) ds)
+windowAt win xs signs k ds = estimateOf (win .len) xs (win .current .index) k (inverseOf (getD signs k 0)) (inWindow (win .count) (win .current .index) ds)
 
-pub by-times : (win : Window) (xs : List Float) (signs : List ℕ) (k : ℕ) {before step count : ℕ} {r : Times} {v : Pair} → TimesOf (win .count) (win .index) before step count r
-    → v ≡ estimateOf (win .len) xs (win .index) k (inverseOf (getD signs k 0)) (spectraOf (r .sent)) → v ≡ windowAt win xs signs k (offsets before step count)
-by-times win xs signs k t e = e ∙ ap (estimateOf (win .len) xs (win .index) k (inverseOf (getD signs k 0))) (t .reached .spectra)
+pub by-times : (win : Window) (xs : List Float) (signs : List ℕ) (k : ℕ) {before step count : ℕ} {r : Times} {v : Pair} → TimesOf (win .count) (win .current .index) before step count r
+    → v ≡ estimateOf (win .len) xs (win .current .index) k (inverseOf (getD signs k 0)) (spectraOf (r .sent)) → v ≡ windowAt win xs signs k (offsets before step count)
+by-times win xs signs k t e = e ∙ ap (estimateOf (win .len) xs (win .current .index) k (inverseOf (getD signs k 0))) (t .reached .spectra)
 
 module _ {plan : Plan} {xs : List Float} {signs : List ℕ} {out : List Float} (W : Writable plan xs signs out) where
-  pub by-plan : (k : ℕ) (ds : List ℤ) → windowAt (plan .win) xs signs k ds ≡ estimateAt (plan .mode) xs (plan .win .index) k ds
+  pub by-plan : (k : ℕ) (ds : List ℤ) → windowAt (plan .win) xs signs k ds ≡ estimateAt (plan .mode) xs (plan .win .current) k ds
   unfolding estimateAt
-  by-plan k ds = λ i. estimateOf (W .len i) xs (plan .win .index) k (inverseOf (getD (W .signed i) k 0)) (inWindow (W .count i) (plan .win .index) ds)
+  by-plan k ds = λ i. estimateOf (W .len i) xs (plan .win .current .index) k (inverseOf (getD (W .signed i) k 0)) (inWindow (W .count i) (plan .win .current .index) ds)
 
   -- a grid of the same size
   pub again : (now : List Float) → length now ≡ length out → Writable plan xs signs now
@@ -68,8 +68,8 @@ module _ {plan : Plan} {xs : List Float} {signs : List ℕ} {out : List Float} (
     pub room-there : 2 * i + 1 < length out
     room-there = omega (arith, W .room, pointed (plan .mode) .all)
 
-    pub fitting : {before step count : ℕ} {r : Times} → TimesOf (plan .win .count) (plan .win .index) before step count r
-        → Fitting (plan .win) (r .sent) (3 * i) (length xs) × Timed (plan .win .index) r
+    pub fitting : {before step count : ℕ} {r : Times} → TimesOf (plan .win .count) (plan .win .current .index) before step count r
+        → Fitting (plan .win) (r .sent) (3 * i) (length xs) × Timed (plan .win .current .index) r
     fitting t = (
       record {
         spanned = W .spanned;

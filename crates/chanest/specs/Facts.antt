@@ -31,6 +31,7 @@ use Rattle.frame.specs.Operations.{areKinds}
 use Rattle.frame.specs.Roles.{OfdmSegment, roleByte, placeRole, bandRoles, wideSegment, wide}
 use Rattle.frame.specs.Rules.{segmentIn}
 use Rattle.frame.specs.OneRole.{map-says}
+use Rattle.chanest.specs.declared.Current.{Current}
 use Rattle.chanest.specs.Line.{lineAtZero}
 use Rattle.chanest.specs.Window.{inWindow, carrierIn, pointsIn, estimateOf}
 use Rattle.chanest.specs.Grid.{estimateAt, windowCode, segmentPoints, gridPoints, coherentAt, isScattered, isClosing, backOf, scatteredAt, continualAt, gridPoint, gridOf, atLeastOne, grid, gridCode, gridLeaves}
@@ -46,27 +47,27 @@ not-coherent kinds h place (yes l) = rw (lt-ltb place 13 l, h (segmentAt place) 
 not-coherent kinds h place (no g) = rw (le-ltb place 13 (omega arith))
 
 -- ---- what is kept, and what is written
-module _ (m : Mode) (phase : ℕ) (kinds : List ℕ) (xs : List Float) (t w : ℕ) (old : List Float) where
+module _ (m : Mode) (kinds : List ℕ) (xs : List Float) (current : Current) (old : List Float) where
   abbrev Accepted : Type 0
-  Accepted = gridCode (Known m) phase kinds (length xs) t w (length old) ≡ 0
+  Accepted = gridCode (Known m) kinds (length xs) current (length old) ≡ 0
 
   abbrev given : List Float
-  given = grid m phase kinds xs t w old
+  given = grid m kinds xs current old
 
   abbrev left : List Float
-  left = gridLeaves (Known m) phase kinds xs t w old
+  left = gridLeaves (Known m) kinds xs current old
 
   -- an accepted call was lent a whole grid
   whole : Accepted → length old ≡ 2 * gridPoints m
   unfolding gridCode
-  whole a = accepted m phase (length xs) t w (length old) (passed (areKinds kinds) 2 _ (lit< tt) a .rest) .room
+  whole a = accepted m (length xs) current (length old) (passed (areKinds kinds) 2 _ (lit< tt) a .rest) .room
 
   -- what is left is the grid, or what was lent
   either : (P : List Float → Type 0) → (Accepted → P given) → P old → P left
   unfolding gridLeaves
-  either P new same = by (eqb (gridCode (Known m) phase kinds (length xs) t w (length old)) 0) refl
+  either P new same = by (eqb (gridCode (Known m) kinds (length xs) current (length old)) 0) refl
     where
-      by : (b : Bool) → eqb (gridCode (Known m) phase kinds (length xs) t w (length old)) 0 ≡ b → P (cond b given old)
+      by : (b : Bool) → eqb (gridCode (Known m) kinds (length xs) current (length old)) 0 ≡ b → P (cond b given old)
       by true e = new (eqb-true _ _ e)
       by false e = same
 
@@ -78,11 +79,11 @@ module _ (m : Mode) (phase : ℕ) (kinds : List ℕ) (xs : List Float) (t w : �
   unfolding gridOf
   given-length = length-flat _ ∙ ap (λ (n : ℕ). 2 * n) (length-upTo _ (gridPoints m))
 
-  given-at : (i : ℕ) → i < gridPoints m → pairAt given i ≡ gridPoint m phase kinds xs t (atLeastOne w) (pairAt old i) i
+  given-at : (i : ℕ) → i < gridPoints m → pairAt given i ≡ gridPoint m kinds xs (atLeastOne current) (pairAt old i) i
   unfolding gridOf
   given-at i h = pair-flat _ (gridPoints m) i h
 
-  point-kept : (v : Pair) (i : ℕ) → isScattered m kinds i ≡ false → isClosing m kinds i ≡ false → gridPoint m phase kinds xs t (atLeastOne w) v i ≡ v
+  point-kept : (v : Pair) (i : ℕ) → isScattered m kinds i ≡ false → isClosing m kinds i ≡ false → gridPoint m kinds xs (atLeastOne current) v i ≡ v
   unfolding gridPoint
   point-kept v i s c = rw (s, c)
 
@@ -96,11 +97,11 @@ module _ (m : Mode) (phase : ℕ) (kinds : List ℕ) (xs : List Float) (t w : �
     kept s c = either (λ z. pairAt z i ≡ pairAt old i) (λ a. given-at i h ∙ point-kept (pairAt old i) i s c) refl
 
     -- the others hold what their pilots give
-    pub scattered-written : Accepted → isScattered m kinds i ≡ true → pairAt left i ≡ scatteredAt m phase xs t (atLeastOne w) i
+    pub scattered-written : Accepted → isScattered m kinds i ≡ true → pairAt left i ≡ scatteredAt m xs (atLeastOne current) i
     unfolding gridPoint
     scattered-written a s = ap (λ (z : List Float). pairAt z i) (left-given a) ∙ (given-at i h ∙ rw s)
 
-    pub closing-written : Accepted → isScattered m kinds i ≡ false → isClosing m kinds i ≡ true → pairAt left i ≡ continualAt m xs t (atLeastOne w) i
+    pub closing-written : Accepted → isScattered m kinds i ≡ false → isClosing m kinds i ≡ true → pairAt left i ≡ continualAt m xs (atLeastOne current) i
     unfolding gridPoint
     closing-written a s c = ap (λ (z : List Float). pairAt z i) (left-given a) ∙ (given-at i h ∙ rw (s, c))
 
@@ -110,7 +111,7 @@ module _ (m : Mode) (phase : ℕ) (kinds : List ℕ) (xs : List Float) (t w : �
   none-coherent none =
       either (λ z. z ≡ old) (λ a. sym (flat-own _ (gridPoints m) old (whole a) (λ i h. sym (unchanged i)))) refl
     where
-      unchanged : (i : ℕ) → gridPoint m phase kinds xs t (atLeastOne w) (pairAt old i) i ≡ pairAt old i
+      unchanged : (i : ℕ) → gridPoint m kinds xs (atLeastOne current) (pairAt old i) i ≡ pairAt old i
       unchanged i =
           point-kept (pairAt old i) i (none (i / segmentPoints m))
           (no-closing (eqb (i % segmentPoints m) 0) (ltb 0 i) _ (none (i / segmentPoints m - 1)))
@@ -119,36 +120,38 @@ module _ (m : Mode) (phase : ℕ) (kinds : List ℕ) (xs : List Float) (t w : �
   all-differential h = none-coherent (λ place. not-coherent kinds h place (decLt place 13))
 
 -- a number that is no mode changes nothing either
-pub no-mode : (phase : ℕ) (kinds : List ℕ) (xs : List Float) (t w : ℕ) (old : List Float) → gridLeaves Unknown phase kinds xs t w old ≡ old
+pub no-mode : (kinds : List ℕ) (xs : List Float) (current : Current) (old : List Float) → gridLeaves Unknown kinds xs current old ≡ old
 unfolding gridLeaves
-no-mode phase kinds xs t w old = refl
+no-mode kinds xs current old = refl
 
 -- a time window of 0 counts as 1
-pub window-of-0 : (mode : ModeNumber) (phase : ℕ) (kinds : List ℕ) (xs : List Float) (t : ℕ) (old : List Float)
-    → gridLeaves mode phase kinds xs t 0 old ≡ gridLeaves mode phase kinds xs t 1 old
+pub window-of-0 : (mode : ModeNumber) (kinds : List ℕ) (xs : List Float) (phase index : ℕ) (old : List Float)
+    → gridLeaves mode kinds xs (record { phase = phase; index = index; w = 0 }) old
+    ≡ gridLeaves mode kinds xs (record { phase = phase; index = index; w = 1 }) old
 unfolding gridLeaves gridCode windowCode
-window-of-0 Unknown phase kinds xs t old = refl
-window-of-0 (Known m) phase kinds xs t old = refl
+window-of-0 Unknown kinds xs phase index old = refl
+window-of-0 (Known m) kinds xs phase index old = refl
 
 -- where no spectrum of the window has a carrier's pilot, the carrier is taken as the current spectrum has it, sign and all
-pub raw-taken : (m : Mode) (xs : List Float) (t k : ℕ) (ds : List ℤ) → inWindow (spectraIn (totalCarriers m) (length xs)) t ds ≡ []
-    → estimateAt m xs t k ds ≡ carrierIn (totalCarriers m) xs k t
+pub raw-taken : (m : Mode) (xs : List Float) (current : Current) (k : ℕ) (ds : List ℤ)
+    → inWindow (spectraIn (totalCarriers m) (length xs)) (current .index) ds ≡ []
+    → estimateAt m xs current k ds ≡ carrierIn (totalCarriers m) xs k (current .index)
 unfolding estimateAt estimateOf pointsIn lineAtZero
-raw-taken m xs t k ds e = rw e
+raw-taken m xs current k ds e = rw e
 
 -- what pilots give depends on nothing that was lent
-pub same-written : (m : Mode) (phase : ℕ) (kinds : List ℕ) (xs : List Float) (t w : ℕ) (old other : List Float) (i : ℕ) → i < gridPoints m
-    → length other ≡ length old → gridCode (Known m) phase kinds (length xs) t w (length old) ≡ 0 → (isScattered m kinds i || isClosing m kinds i) ≡ true
-    → pairAt (gridLeaves (Known m) phase kinds xs t w old) i ≡ pairAt (gridLeaves (Known m) phase kinds xs t w other) i
-same-written m phase kinds xs t w old other i h l a s = by (isScattered m kinds i) refl s
+pub same-written : (m : Mode) (kinds : List ℕ) (xs : List Float) (current : Current) (old other : List Float) (i : ℕ) → i < gridPoints m
+    → length other ≡ length old → gridCode (Known m) kinds (length xs) current (length old) ≡ 0 → (isScattered m kinds i || isClosing m kinds i) ≡ true
+    → pairAt (gridLeaves (Known m) kinds xs current old) i ≡ pairAt (gridLeaves (Known m) kinds xs current other) i
+same-written m kinds xs current old other i h l a s = by (isScattered m kinds i) refl s
   where
-    b : gridCode (Known m) phase kinds (length xs) t w (length other) ≡ 0
+    b : gridCode (Known m) kinds (length xs) current (length other) ≡ 0
     b = rw l a
 
     by : (c : Bool) → isScattered m kinds i ≡ c → (c || isClosing m kinds i) ≡ true
-        → pairAt (gridLeaves (Known m) phase kinds xs t w old) i ≡ pairAt (gridLeaves (Known m) phase kinds xs t w other) i
-    by true e g = scattered-written m phase kinds xs t w old i h a e ∙ sym (scattered-written m phase kinds xs t w other i h b e)
-    by false e g = closing-written m phase kinds xs t w old i h a e g ∙ sym (closing-written m phase kinds xs t w other i h b e g)
+        → pairAt (gridLeaves (Known m) kinds xs current old) i ≡ pairAt (gridLeaves (Known m) kinds xs current other) i
+    by true e g = scattered-written m kinds xs current old i h a e ∙ sym (scattered-written m kinds xs current other i h b e)
+    by false e g = closing-written m kinds xs current old i h a e g ∙ sym (closing-written m kinds xs current other i h b e g)
 
 -- ---- the points are the standard's pilots
 -- how points and carriers hang together

@@ -20,6 +20,7 @@ use Rattle.complex.specs.Complex.{Pair}
 use Rattle.spectra.specs.Spectra.{pairAt, flat, spectraIn, spectraCode}
 use Rattle.prbs.specs.Signs.{bandSigns, pilotValue}
 use Rattle.frame.specs.Operations.{areKinds}
+use Rattle.chanest.specs.declared.Current.{Current}
 use Rattle.chanest.specs.Window.{scatteredOffsets, continualOffsets, inWindow, estimateOf}
 
 -- ---- where the points lie: point i is carrier 3 i
@@ -50,52 +51,54 @@ backOf phase i = (phase + 4 - i % 4) % 4
 abbrev pub inverseOf : ℕ → Float
 inverseOf sign = div binary32 (ofBits binary32 0x3f80_0000) (pilotValue sign .re)
 
--- carrier k, whose pilot is sent at the offsets ds from spectrum t
-unfoldable pub estimateAt : Mode → List Float → ℕ → ℕ → List ℤ → Pair
-estimateAt mode xs t k ds =
+-- carrier k, whose pilot is sent at the offsets ds from the current symbol
+unfoldable pub estimateAt : Mode → List Float → Current → ℕ → List ℤ → Pair
+estimateAt mode xs current k ds =
     let len = totalCarriers mode in
+    let t = current .index in
     estimateOf len xs t k (inverseOf (getD (bandSigns mode) k 0)) (inWindow (spectraIn len (length xs)) t ds)
 
 -- point i by its scattered pilots, and by its continual pilot
-abbrev pub scatteredAt : Mode → ℕ → List Float → ℕ → ℕ → ℕ → Pair
-scatteredAt mode phase xs t w i = estimateAt mode xs t (3 * i) (scatteredOffsets w (backOf phase i))
+abbrev pub scatteredAt : Mode → List Float → Current → ℕ → Pair
+scatteredAt mode xs current i = estimateAt mode xs current (3 * i) (scatteredOffsets (current .w) (backOf (current .phase) i))
 
-abbrev pub continualAt : Mode → List Float → ℕ → ℕ → ℕ → Pair
-continualAt mode xs t w i = estimateAt mode xs t (3 * i) (continualOffsets w)
+abbrev pub continualAt : Mode → List Float → Current → ℕ → Pair
+continualAt mode xs current i = estimateAt mode xs current (3 * i) (continualOffsets (current .w))
 
-unfoldable pub gridPoint : Mode → ℕ → List ℕ → List Float → ℕ → ℕ → Pair → ℕ → Pair
-gridPoint mode phase kinds xs t w old i =
-    cond (isScattered mode kinds i) (scatteredAt mode phase xs t w i)
-    (cond (isClosing mode kinds i) (continualAt mode xs t w i) old)
+unfoldable pub gridPoint : Mode → List ℕ → List Float → Current → Pair → ℕ → Pair
+gridPoint mode kinds xs current old i =
+    cond (isScattered mode kinds i) (scatteredAt mode xs current i)
+    (cond (isClosing mode kinds i) (continualAt mode xs current i) old)
+
+unfoldable pub gridOf : Mode → List ℕ → List Float → Current → List Float → List Float
+gridOf mode kinds xs current old = flat (upTo (λ i. gridPoint mode kinds xs current (pairAt old i) i) (gridPoints mode))
 
 -- a time window of 0 counts as 1
-abbrev pub atLeastOne : ℕ → ℕ
-atLeastOne w = cond (eqb w 0) 1 w
+abbrev pub atLeastOne : Current → Current
+atLeastOne current = record { phase = current .phase; index = current .index; w = cond (eqb (current .w) 0) 1 (current .w) }
 
-unfoldable pub gridOf : Mode → ℕ → List ℕ → List Float → ℕ → ℕ → List Float → List Float
-gridOf mode phase kinds xs t w old = flat (upTo (λ i. gridPoint mode phase kinds xs t w (pairAt old i) i) (gridPoints mode))
-
-abbrev pub grid : Mode → ℕ → List ℕ → List Float → ℕ → ℕ → List Float → List Float
-grid mode phase kinds xs t w old = gridOf mode phase kinds xs t (atLeastOne w) old
+abbrev pub grid : Mode → List ℕ → List Float → Current → List Float → List Float
+grid mode kinds xs current old = gridOf mode kinds xs (atLeastOne current) old
 
 -- ---- the operation: 1; 2; 3; 5; 6; 4 for an index outside; 10 for w above 64; 7 unless k_total/3 + 2 pairs
--- what refuses the numbers beside mode and kinds, or 0
-unfoldable pub windowCode : Mode → ℕ → ℕ → ℕ → ℕ → ℕ → ℕ
-windowCode mode phase floats t w n =
+-- what refuses the numbers beside mode and kinds, or 0: n floats are lent as the grid
+unfoldable pub windowCode : Mode → ℕ → Current → ℕ → ℕ
+windowCode mode floats current n =
     let len = totalCarriers mode in
-    unless (ltb phase 4) 3 (spectraCode len floats
-    (unless (ltb t (spectraIn len floats)) 4 (unless (leb w 64) 10 (unless (eqb n (2 * gridPoints mode)) 7 0))))
+    unless (ltb (current .phase) 4) 3 (spectraCode len floats
+    (unless (ltb (current .index) (spectraIn len floats)) 4 (unless (leb (current .w) 64) 10 (unless (eqb n (2 * gridPoints mode)) 7 0))))
 
-unfoldable pub gridCode : ModeNumber → ℕ → List ℕ → ℕ → ℕ → ℕ → ℕ → ℕ
-gridCode Unknown phase kinds floats t w n = 1
-gridCode (Known m) phase kinds floats t w n = unless (areKinds kinds) 2 (windowCode m phase floats t w n)
+unfoldable pub gridCode : ModeNumber → List ℕ → ℕ → Current → ℕ → ℕ
+gridCode Unknown kinds floats current n = 1
+gridCode (Known m) kinds floats current n = unless (areKinds kinds) 2 (windowCode m floats current n)
 
 -- the lent grid at exit
-unfoldable pub gridLeaves : ModeNumber → ℕ → List ℕ → List Float → ℕ → ℕ → List Float → List Float
-gridLeaves Unknown phase kinds xs t w old = old
-gridLeaves (Known m) phase kinds xs t w old =
-    cond (eqb (gridCode (Known m) phase kinds (length xs) t w (length old)) 0) (grid m phase kinds xs t w old) old
+unfoldable pub gridLeaves : ModeNumber → List ℕ → List Float → Current → List Float → List Float
+gridLeaves Unknown kinds xs current old = old
+gridLeaves (Known m) kinds xs current old =
+    cond (eqb (gridCode (Known m) kinds (length xs) current (length old)) 0) (grid m kinds xs current old) old
 
-pub record GridEstimated (mode : ModeNumber) (phase : ℕ) (kinds : List ℕ) (xs : List Float) (t w : ℕ) (old : List Float) (r : ℕ) (now : List Float) : Type 0 where
-  pub code : r ≡ gridCode mode phase kinds (length xs) t w (length old)
-  pub leaves : now ≡ gridLeaves mode phase kinds xs t w old
+pub record GridEstimated (mode : ModeNumber) (kinds : List ℕ) (xs : List Float) (current : Current) (old : List Float) (r : ℕ) (now : List Float)
+    : Type 0 where
+  pub code : r ≡ gridCode mode kinds (length xs) current (length old)
+  pub leaves : now ≡ gridLeaves mode kinds xs current old

@@ -59,7 +59,7 @@ pub record TimesOf (n t before step count : ℕ) (r : Times) : Type 0 where
 -- ---- a carrier of the window: n floats are its spectra
 pub record Spanned (win : Window) (n : ℕ) : Type 0 where
   pub floats : n ≡ 2 * (win .len * win .count)
-  pub current : win .index < win .count
+  pub current : win .current .index < win .count
   pub few : win .count ≤ 1024
   pub narrow : win .len ≤ 5617
 
@@ -75,14 +75,14 @@ valueIn len xs k inverse s = scaled binary32 (carrierIn len xs k s) inverse
 -- ---- what the points of a grid share
 -- the current spectrum is in the window, and the times can be looked for
 pub record Usable (win : Window) : Type 0 where
-  pub current : win .index < win .count
+  pub current : win .current .index < win .count
   pub few : win .count ≤ 1024
-  pub wide : 0 < win .w
-  pub short : win .w ≤ 64
+  pub wide : 0 < win .current .w
+  pub short : win .current .w ≤ 64
 
 -- the times of the scattered pilots, sent last `back` symbols ago
 abbrev pub ScatteredAgo : Window → ℕ → Times → Type 0
-ScatteredAgo win back r = TimesOf (win .count) (win .index) (4 * (win .w - 1) + back) 4 (2 * win .w) r
+ScatteredAgo win back r = TimesOf (win .count) (win .current .index) (4 * (win .current .w - 1) + back) 4 (2 * win .current .w) r
 
 pub record ScatteredTimes (win : Window) (r : Scattered) : Type 0 where
   pub now : ScatteredAgo win 0 (r .now)
@@ -93,12 +93,11 @@ pub record ScatteredTimes (win : Window) (r : Scattered) : Type 0 where
 pub record SentAgo (s : Scattered) (back : ℕ) (r : Times) : Type 0 where
   pub ago : (win : Window) → ScatteredTimes win s → ScatteredAgo win back r
 
-pub record Planned (mode : Mode) (phase : ℕ) (win : Window) (r : Plan) : Type 0 where
+pub record Planned (mode : Mode) (win : Window) (r : Plan) : Type 0 where
   pub same-mode : r .mode ≡ mode
-  pub same-phase : r .phase ≡ phase
   pub same-window : r .win ≡ win
   pub scattered : ScatteredTimes win (r .scattered)
-  pub continual : TimesOf (win .count) (win .index) (2 * win .w - 1) 1 (4 * win .w - 1) (r .continual)
+  pub continual : TimesOf (win .count) (win .current .index) (2 * win .current .w - 1) 1 (4 * win .current .w - 1) (r .continual)
 
 -- ---- the lent grid: points from `from` to `to` hold f's values, the others what they held
 pub record Written (f : ℕ → Pair) (from to : ℕ) (old now : List Float) : Type 0 where
@@ -109,21 +108,21 @@ pub record Written (f : ℕ → Pair) (from to : ℕ) (old now : List Float) : T
 
 -- a plan for the window of the spectra xs, with the band's signs and a grid
 pub record Writable (plan : Plan) (xs : List Float) (signs : List ℕ) (out : List Float) : Type 0 where
-  pub phase : plan .phase < 4
+  pub phase : plan .win .current .phase < 4
   pub len : plan .win .len ≡ totalCarriers (plan .mode)
   pub count : plan .win .count ≡ spectraIn (totalCarriers (plan .mode)) (length xs)
   pub spanned : Spanned (plan .win) (length xs)
   pub signed : signs ≡ bandSigns (plan .mode)
   pub scattered : ScatteredTimes (plan .win) (plan .scattered)
-  pub continual : TimesOf (plan .win .count) (plan .win .index) (2 * plan .win .w - 1) 1 (4 * plan .win .w - 1) (plan .continual)
+  pub continual : TimesOf (plan .win .count) (plan .win .current .index) (2 * plan .win .current .w - 1) 1 (4 * plan .win .current .w - 1) (plan .continual)
   pub room : length out ≡ 2 * gridPoints (plan .mode)
 
 -- the points of a plan
 abbrev pub scatteredPoint : Plan → List Float → ℕ → Pair
-scatteredPoint plan xs i = scatteredAt (plan .mode) (plan .phase) xs (plan .win .index) (plan .win .w) i
+scatteredPoint plan xs i = scatteredAt (plan .mode) xs (plan .win .current) i
 
 abbrev pub continualPoint : Plan → List Float → ℕ → Pair
-continualPoint plan xs i = continualAt (plan .mode) xs (plan .win .index) (plan .win .w) i
+continualPoint plan xs i = continualAt (plan .mode) xs (plan .win .current) i
 
 abbrev pub gridBy : Plan → List ℕ → List Float → List Float → List Float
-gridBy plan kinds xs old = gridOf (plan .mode) (plan .phase) kinds xs (plan .win .index) (plan .win .w) old
+gridBy plan kinds xs old = gridOf (plan .mode) kinds xs (plan .win .current) old

@@ -12,7 +12,7 @@ ghost use Rattle.params.specs.Params.{modeFrom};
 ghost use Rattle.complex.specs.Complex.{of32};
 ghost use Rattle.chanest.specs.Line.{mean, spread, meanPair, slopeSum};
 ghost use Rattle.chanest.specs.Window.{offsetOf, pointsIn, estimateOf};
-ghost use Rattle.chanest.specs.Grid.{segmentPoints, inverseOf, grid, windowCode, GridEstimated};
+ghost use Rattle.chanest.specs.Grid.{segmentPoints, inverseOf, atLeastOne, grid, windowCode, GridEstimated};
 ghost use Rattle.chanest.specs.Inner.{spectraOf, Inside, Searchable, Reached, offsetsOf, Timed, TimesOf, Usable, ScatteredTimes, SentAgo, Planned, Spanned, Fitting, valueIn, Writable, scatteredPoint, continualPoint, Written, gridBy};
 use complex::C32;
 use frame::FrameLayout;
@@ -23,13 +23,19 @@ use params::SegmentKind;
 // 1.0 divided by the pilots' amplitude, as f32.
 const INVERSE_AMPLITUDE: f32 = 0.75;
 
-// `count` spectra of `len` carriers, of which `index` is the current one; `w` scattered pilots of a
-// carrier count on each side of it.
+// The symbol that a grid is asked for: the phase of its scattered pilots, its index among the spectra,
+// and how many scattered pilots of a carrier count on each side of it.
+pub struct Current {
+    pub phase: u8,
+    pub index: usize,
+    pub w: usize,
+}
+
+// `count` spectra of `len` carriers, and the current one among them.
 pub struct Window {
     pub len: usize,
     pub count: usize,
-    pub index: usize,
-    pub w: usize,
+    pub current: Current,
 }
 
 // The spectra in which a carrier's pilot is sent: `count` of them from `first` on, `step` apart.
@@ -58,7 +64,6 @@ pub struct Scattered {
 // What the points of a grid share: the times of its scattered and of its continual pilots.
 pub struct Plan {
     pub mode: Mode,
-    pub phase: u8,
     pub win: Window,
     pub scattered: Scattered,
     pub continual: Times,
@@ -131,10 +136,11 @@ fn spread_about(sent: Sent, t: usize, mean: f32) -> f32
 
 // The times of a carrier whose pilot is sent at `count` offsets, `step` apart from `before` symbols ago on.
 fn times_at(win: Window, before: usize, step: usize, count: usize) -> Times
-    requires { ⌜ Searchable (win .count) (win .index) before step count ⌝ }
-    ensures { λ r. ⌜ TimesOf (win .count) (win .index) before step count r ⌝ }
+    requires { ⌜ Searchable (win .count) (win .current .index) before step count ⌝ }
+    ensures { λ r. ⌜ TimesOf (win .count) (win .current .index) before step count r ⌝ }
 {
-    let t = win.index;
+    let current = win.current;
+    let t = current.index;
     let sent = sent_in(win.count, t, before, step, count);
     let mean = mean_offset(sent, t);
     let spread = spread_about(sent, t, mean);
@@ -146,7 +152,8 @@ fn scattered_times(win: Window) -> Scattered
     requires { ⌜ Usable win ⌝ }
     ensures { λ r. ⌜ ScatteredTimes win r ⌝ }
 {
-    let w = win.w;
+    let current = win.current;
+    let w = current.w;
     let before = 4 * (w - 1);
     let now = times_at(win, before, 4, 2 * w);
     let one = times_at(win, before + 1, 4, 2 * w);
@@ -157,6 +164,19 @@ fn scattered_times(win: Window) -> Scattered
         one,
         two,
         three,
+    }
+}
+
+impl Current {
+    // A time window of 0 counts as 1.
+    fn at_least_one(self) -> Current
+        ensures { λ r. ⌜ r ≡ atLeastOne self ⌝ }
+    {
+        Current {
+            phase: self.phase,
+            index: self.index,
+            w: if self.w == 0 { 1 } else { self.w },
+        }
     }
 }
 
@@ -180,16 +200,16 @@ impl Scattered {
 }
 
 // What the points of a grid share.
-fn planned(mode: Mode, phase: u8, win: Window) -> Plan
+fn planned(mode: Mode, win: Window) -> Plan
     requires { ⌜ Usable win ⌝ }
-    ensures { λ r. ⌜ Planned mode phase win r ⌝ }
+    ensures { λ r. ⌜ Planned mode win r ⌝ }
 {
-    let w = win.w;
+    let current = win.current;
+    let w = current.w;
     let scattered = scattered_times(win);
     let continual = times_at(win, 2 * w - 1, 1, 4 * w - 1);
     Plan {
         mode,
-        phase,
         win,
         scattered,
         continual,
@@ -234,15 +254,16 @@ fn mean_value(win: Window, sent: Sent, spectra: &[f32], k: usize, inverse: f32) 
 // The values' and the offsets' distances from their means, multiplied and summed.
 fn slope_sum(win: Window, at: Times, middle: C32, spectra: &[f32], k: usize, inverse: f32) -> C32
     requires { ⌜ Fitting win (at .sent) k (length (now spectra)) ⌝ }
-    ensures { λ r. ⌜ of32 r ≡ slopeSum (at .mean) (of32 middle) (pointsIn (win .len) (now (spectra .entry)) (win .index) k inverse (spectraOf (at .sent))) ⌝ }
+    ensures { λ r. ⌜ of32 r ≡ slopeSum (at .mean) (of32 middle) (pointsIn (win .len) (now (spectra .entry)) (win .current .index) k inverse (spectraOf (at .sent))) ⌝ }
 {
     let sent = at.sent;
+    let current = win.current;
     let mut sum = C32::new(0.0, 0.0);
     let mut i: usize = 0;
     while i < sent.count {
         let s = sent.first + sent.step * i;
         let v = value_in(win, spectra, k, s, inverse).sub(middle);
-        sum = sum.add(v.scale(offset(win.index, s) - at.mean));
+        sum = sum.add(v.scale(offset(current.index, s) - at.mean));
         i += 1;
     }
     sum
@@ -251,8 +272,8 @@ fn slope_sum(win: Window, at: Times, middle: C32, spectra: &[f32], k: usize, inv
 // The least-squares line through a carrier's values at the current symbol. A single value is taken as it
 // is, and values that are not spread give their mean.
 fn ls_line_at_zero(win: Window, at: Times, spectra: &[f32], k: usize, inverse: f32) -> C32
-    requires { ⌜ Fitting win (at .sent) k (length (now spectra)) × Timed (win .index) at × (0 < at .sent .count) ⌝ }
-    ensures { λ r. ⌜ of32 r ≡ estimateOf (win .len) (now (spectra .entry)) (win .index) k inverse (spectraOf (at .sent)) ⌝ }
+    requires { ⌜ Fitting win (at .sent) k (length (now spectra)) × Timed (win .current .index) at × (0 < at .sent .count) ⌝ }
+    ensures { λ r. ⌜ of32 r ≡ estimateOf (win .len) (now (spectra .entry)) (win .current .index) k inverse (spectraOf (at .sent)) ⌝ }
 {
     let sent = at.sent;
     if sent.count == 1 {
@@ -269,12 +290,13 @@ fn ls_line_at_zero(win: Window, at: Times, spectra: &[f32], k: usize, inverse: f
 // The estimate at carrier k. Where no spectrum of the window has its pilot, the carrier is taken as the
 // current spectrum has it, its sign too.
 fn estimate_at(win: Window, at: Times, spectra: &[f32], k: usize, sign: u8) -> C32
-    requires { ⌜ Fitting win (at .sent) k (length (now spectra)) × Timed (win .index) at ⌝ }
-    ensures { λ r. ⌜ of32 r ≡ estimateOf (win .len) (now (spectra .entry)) (win .index) k (inverseOf sign) (spectraOf (at .sent)) ⌝ }
+    requires { ⌜ Fitting win (at .sent) k (length (now spectra)) × Timed (win .current .index) at ⌝ }
+    ensures { λ r. ⌜ of32 r ≡ estimateOf (win .len) (now (spectra .entry)) (win .current .index) k (inverseOf sign) (spectraOf (at .sent)) ⌝ }
 {
     let sent = at.sent;
     if sent.count == 0 {
-        return spectra::pair_at(spectra, win.index * win.len + k);
+        let current = win.current;
+        return spectra::pair_at(spectra, current.index * win.len + k);
     }
     ls_line_at_zero(win, at, spectra, k, inverse_pilot(sign))
 }
@@ -287,7 +309,8 @@ fn write_segment(plan: Plan, spectra: &[f32], signs: &[u8], from: usize, out: &m
     let mode = plan.mode;
     let win = plan.win;
     let scattered = plan.scattered;
-    let phase = plan.phase as usize;
+    let current = win.current;
+    let phase = current.phase as usize;
     let to = from + mode.carriers_per_segment() / 3;
     let mut i = from;
     while i < to {
@@ -342,21 +365,21 @@ fn write_points(layout: FrameLayout, plan: Plan, spectra: &[f32], signs: &[u8], 
 
 // What refuses the numbers of a grid, or 0: 3 for a bad phase, 5 unless whole spectra, at most 1,024, 6
 // if none, 4 for an index outside, 10 for w above 64, 7 unless n floats are the grid.
-fn refusal(mode: Mode, phase: u8, floats: usize, index: usize, w: usize, n: usize) -> u8
-    ensures { λ r. ⌜ r ≡ windowCode mode phase floats index w n ⌝ }
+fn refusal(mode: Mode, floats: usize, current: Current, n: usize) -> u8
+    ensures { λ r. ⌜ r ≡ windowCode mode floats current n ⌝ }
 {
     let k = mode.total_carriers();
-    if phase > 3 {
+    if current.phase > 3 {
         return 3;
     }
     let code = spectra::refusal(k, floats);
     if code != 0 {
         return code;
     }
-    if index >= floats / (2 * k) {
+    if current.index >= floats / (2 * k) {
         return 4;
     }
-    if w > 64 {
+    if current.w > 64 {
         return 10;
     }
     if n != 2 * (k / 3 + 2) {
@@ -365,49 +388,40 @@ fn refusal(mode: Mode, phase: u8, floats: usize, index: usize, w: usize, n: usiz
     0
 }
 
-// The grid of an accepted call. A time window of 0 counts as 1.
-fn write_grid(
-    layout: FrameLayout,
-    phase: u8,
-    spectra: &[f32],
-    index: usize,
-    w: usize,
-    out: &mut [f32],
-)
-    requires { ⌜ windowCode (layout .mode) phase (length (now spectra)) index w (length (now out)) ≡ 0 ⌝ }
-    ensures { λ _. ⌜ now (out .exit) ≡ grid (layout .mode) phase (layout .kinds) (now (spectra .entry)) index w (now (out .entry)) ⌝ }
+// The grid of an accepted call.
+fn write_grid(layout: FrameLayout, spectra: &[f32], current: Current, out: &mut [f32])
+    requires { ⌜ windowCode (layout .mode) (length (now spectra)) current (length (now out)) ≡ 0 ⌝ }
+    ensures { λ _. ⌜ now (out .exit) ≡ grid (layout .mode) (layout .kinds) (now (spectra .entry)) current (now (out .entry)) ⌝ }
 {
     let mode = layout.mode;
     let k = mode.total_carriers();
+    let counted = current.at_least_one();
     let win = Window {
         len: k,
         count: spectra.len() / (2 * k),
-        index: index,
-        w: if w == 0 { 1 } else { w },
+        current: counted,
     };
-    let plan = planned(mode, phase, win);
+    let plan = planned(mode, win);
     let mut buffer = prbs::sign_buffer();
     prbs::band_w(mode, &mut buffer[..k]);
     write_points(layout, plan, spectra, &buffer[..k], out);
 }
 
-// The channel at the points of the grid, carriers 0, 3, 6 and so on, for spectrum `index` of a window of
-// spectra of k_total carriers, whose scattered pilots have the phase `phase`. Points outside the coherent
-// segments keep their contents, but for the continual pilots that close them.
+// The channel at the points of the grid, carriers 0, 3, 6 and so on, for the current one of a window of
+// spectra of k_total carriers. Points outside the coherent segments keep their contents, but for the
+// continual pilots that close them.
 //
 // Refused by 1 for a bad mode, 2 unless there are thirteen kinds of 0 or 1, 3 for a bad phase, 5 unless
 // whole spectra, at most 1,024, 6 if none, 4 for an index outside, 10 for w above 64, 7 unless the grid
 // has k_total/3 + 2 pairs.
 pub fn estimate_grid(
     mode: u8,
-    phase: u8,
     kinds: &[u8],
     spectra: &[f32],
-    index: usize,
-    w: usize,
+    current: Current,
     grid: &mut [f32],
 ) -> u8
-    ensures { λ r. ⌜ GridEstimated (modeFrom mode) phase (now (kinds .entry)) (now (spectra .entry)) index w (now (grid .entry)) r (now (grid .exit)) ⌝ }
+    ensures { λ r. ⌜ GridEstimated (modeFrom mode) (now (kinds .entry)) (now (spectra .entry)) current (now (grid .entry)) r (now (grid .exit)) ⌝ }
 {
     let new = FrameLayout::new(mode, kinds);
     let code = new.code;
@@ -416,10 +430,10 @@ pub fn estimate_grid(
     }
     let layout = new.layout;
     let m = layout.mode;
-    let code = refusal(m, phase, spectra.len(), index, w, grid.len());
+    let code = refusal(m, spectra.len(), current, grid.len());
     if code != 0 {
         return code;
     }
-    write_grid(layout, phase, spectra, index, w, grid);
+    write_grid(layout, spectra, current, grid);
     0
 }

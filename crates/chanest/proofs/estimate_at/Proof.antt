@@ -13,21 +13,21 @@ use Rattle.chanest.proofs.estimate_at.Tie as tie
 
 mul-pair-at : tie.Need-mul-pair-at
 mul-pair-at c =
-    let p = c .before .before .before .before .before .pre .0 in
+    let p = c .before .before .before .before .before .before .before .pre .0 in
     omega (arith, small _ _ _ _ (p .spanned) (p .carrier) (p .spanned .current))
 
 add-pair-at : tie.Need-add-pair-at
 add-pair-at c =
-    let p = c .before .before .before .before .before .pre .0 in
+    let p = c .before .before .before .before .before .before .before .pre .0 in
     omega (arith, small _ _ _ _ (p .spanned) (p .carrier) (p .spanned .current))
 
 pair-at-requires : tie.Need-pair-at-requires
 pair-at-requires c κs =
-    let p = c .before .before .before .before .before .pre .0 in
+    let p = c .before .before .before .before .before .before .before .pre .0 in
     held _ _ _ _ (p .spanned) (p .carrier) (p .spanned .current)
 
 returns : tie.Need-returns
-returns c = c .pair-at .ensures ∙ sym (none-is _ _ _ _ _ _ (c .before .before .if1 .taken))
+returns c = c .pair-at .ensures ∙ sym (none-is _ _ _ _ _ _ (c .before .before .before .before .if1 .taken))
 
 inverse-pilot-requires : tie.Need-inverse-pilot-requires
 inverse-pilot-requires c κs = search needs
@@ -39,7 +39,7 @@ returns-2 : tie.Need-returns-2
 returns-2 c =
     let s = c .before .before .before .before .before .before in
     c .ls-line-at-zero .ensures
-    ∙ ap (λ (v : Float). estimateOf (s .args .win .len) (s .args .spectra .now) (s .args .win .index) (s .args .k) v (spectraOf (s .args .at .sent)))
+    ∙ ap (λ (v : Float). estimateOf (s .args .win .len) (s .args .spectra .now) (s .args .win .current .index) (s .args .k) v (spectraOf (s .args .at .sent)))
     (c .before .inverse-pilot .ensures)
 
 pub estimate-at-spec : {M : Type 1} → statement M

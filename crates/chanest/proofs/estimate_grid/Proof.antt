@@ -11,7 +11,7 @@ new-requires c κs = search needs
 returns : tie.Need-returns
 returns c =
     let s = c .before .before .before .before .before in
-    bad-layout (c .before .new .ensures) (s .args .phase) (s .args .spectra .now) (s .args .index) (s .args .w) (s .args .grid .now) (c .if1 .taken)
+    bad-layout (c .before .new .ensures) (s .args .spectra .now) (s .args .current) (s .args .grid .now) (c .if1 .taken)
 
 refusal-requires : tie.Need-refusal-requires
 refusal-requires c κs = search needs
@@ -20,7 +20,8 @@ returns-2 : tie.Need-returns-2
 returns-2 c =
     let n = c .before .before .before .before in
     let s = n .before .before .before .before in
-    bad-numbers (n .new .ensures) (s .args .phase) (s .args .spectra .now) (s .args .index) (s .args .w) (s .args .grid .now) (c .before .before .before .if1 .left) (c .before .refusal .ensures) (c .if2 .taken)
+    bad-numbers (n .new .ensures) (s .args .spectra .now) (s .args .current) (s .args .grid .now) (c .before .before .before .if1 .left)
+    (c .before .refusal .ensures) (c .if2 .taken)
 
 write-grid-requires : tie.Need-write-grid-requires
 write-grid-requires c κs = search needs
@@ -33,7 +34,8 @@ returns-3 c =
     let r = c .before .before .before .before .before in
     let n = r .before .before .before in
     let s = n .before .before .before .before in
-    answered (n .new .ensures) (s .args .phase) (s .args .spectra .now) (s .args .index) (s .args .w) (s .args .grid .now) (r .before .before .if1 .left) (r .refusal .ensures) (c .before .before .before .before .if2 .left) (c .before .before .write-grid .ensures)
+    answered (n .new .ensures) (s .args .spectra .now) (s .args .current) (s .args .grid .now) (r .before .before .if1 .left)
+    (r .refusal .ensures) (c .before .before .before .before .if2 .left) (c .before .before .write-grid .ensures)
 
 pub estimate-grid-spec : {M : Type 1} → statement M
 estimate-grid-spec =

@@ -11,7 +11,7 @@ total-carriers-requires : tie.Need-total-carriers-requires
 total-carriers-requires c κs = search needs
 
 returns : tie.Need-returns
-returns c = by-phase _ _ _ _ _ _ (c .if1 .taken)
+returns c = by-phase _ _ _ _ (c .if1 .taken)
 
 refusal-requires : tie.Need-refusal-requires
 refusal-requires c κs = search needs
@@ -19,23 +19,30 @@ refusal-requires c κs = search needs
 returns-2 : tie.Need-returns-2
 returns-2 c =
     let r = c .before in
-    by-spectra _ _ _ _ _ _ _ (r .before .before .total-carriers .ensures) (r .before .if1 .left) _ (r .refusal .ensures) (c .if2 .taken)
+    let f = r .before in
+    by-spectra _ _ _ _ _ (f .before .before .total-carriers .ensures) (f .if1 .left) _ (r .refusal .ensures) (c .if2 .taken)
 
 mul-if3 : tie.Need-mul-if3
-mul-if3 c = omega (arith, sized (c .before .before .before .before .args .mode) .band-high)
+mul-if3 c = omega (arith, sized (c .before .before .before .before .before .args .mode) .band-high)
 
 div-if3 : tie.Need-div-if3
-div-if3 c = omega (arith, sized (c .before .before .before .before .args .mode) .band)
+div-if3 c = omega (arith, sized (c .before .before .before .before .before .args .mode) .band)
 
 returns-3 : tie.Need-returns-3
 returns-3 c =
-    let r = c .before .before in
-    by-index _ _ _ _ _ _ _ (r .before .before .total-carriers .ensures) (r .before .if1 .left) _ (r .refusal .ensures) (c .before .if2 .left) (c .if3 .taken)
+    let i2 = c .before .before in
+    let r = i2 .before in
+    let f = r .before in
+    by-index _ _ _ _ _ (f .before .before .total-carriers .ensures) (f .if1 .left) _ (r .refusal .ensures) (i2 .if2 .left) (c .if3 .taken)
 
 returns-4 : tie.Need-returns-4
 returns-4 c =
-    let r = c .before .before .before in
-    by-window _ _ _ _ _ _ _ (r .before .before .total-carriers .ensures) (r .before .if1 .left) _ (r .refusal .ensures) (c .before .before .if2 .left) (c .before .if3 .left) (c .if4 .taken)
+    let i3 = c .before .before in
+    let i2 = i3 .before .before in
+    let r = i2 .before in
+    let f = r .before in
+    by-window _ _ _ _ _ (f .before .before .total-carriers .ensures) (f .if1 .left) _ (r .refusal .ensures) (i2 .if2 .left) (i3 .if3 .left)
+    (c .if4 .taken)
 
 add-if5 : tie.Need-add-if5
 add-if5 c = search needs
@@ -45,15 +52,21 @@ mul-if5 c = search needs
 
 returns-5 : tie.Need-returns-5
 returns-5 c =
-    let i = c .before .before in
-    let r = i .before .before in
-    by-length _ _ _ _ _ _ _ (r .before .before .total-carriers .ensures) (r .before .if1 .left) _ (r .refusal .ensures) (i .before .if2 .left) (i .if3 .left) (c .before .if4 .left) (c .if5 .taken)
+    let i3 = c .before .before .before in
+    let i2 = i3 .before .before in
+    let r = i2 .before in
+    let f = r .before in
+    by-length _ _ _ _ _ (f .before .before .total-carriers .ensures) (f .if1 .left) _ (r .refusal .ensures) (i2 .if2 .left) (i3 .if3 .left)
+    (c .before .if4 .left) (c .if5 .taken)
 
 returns-6 : tie.Need-returns-6
 returns-6 c =
-    let i = c .before .before in
-    let r = i .before .before in
-    by-none _ _ _ _ _ _ _ (r .before .before .total-carriers .ensures) (r .before .if1 .left) _ (r .refusal .ensures) (i .before .if2 .left) (i .if3 .left) (c .before .if4 .left) (c .if5 .left)
+    let i3 = c .before .before .before in
+    let i2 = i3 .before .before in
+    let r = i2 .before in
+    let f = r .before in
+    by-none _ _ _ _ _ (f .before .before .total-carriers .ensures) (f .if1 .left) _ (r .refusal .ensures) (i2 .if2 .left) (i3 .if3 .left)
+    (c .before .if4 .left) (c .if5 .left)
 
 pub refusal-spec : {M : Type 1} → statement M
 refusal-spec =

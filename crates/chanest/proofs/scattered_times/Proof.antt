@@ -47,7 +47,7 @@ times-at-requires-4 c κs = search needs
 
 returns : tie.Need-returns
 returns c =
-    let e = add-zero (4 * (c .before .before .before .before .args .win .w - 1)) in
+    let e = add-zero (4 * (c .before .before .before .before .before .args .win .current .w - 1)) in
     record {
       now = rw e (c .before .before .before .times-at .ensures);
       one = c .before .before .times-at2 .ensures;

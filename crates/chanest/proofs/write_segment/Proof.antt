@@ -16,7 +16,7 @@ use Rattle.chanest.proofs.write_segment.Tie as tie
 abbrev Inv-loop : tie.InvT-loop
 Inv-loop spectra signs from out₀ win scattered phase to i₀ out i =
     (from ≤ i) × (i ≤ to)
-    × Written (λ j. windowAt win spectra signs (3 * j) (scatteredOffsets (win .w) (backOf phase j))) from i out₀ out
+    × Written (λ j. windowAt win spectra signs (3 * j) (scatteredOffsets (win .current .w) (backOf phase j))) from i out₀ out
 
 abbrev μ-loop : tie.MeasureT-loop
 μ-loop spectra signs from out₀ win scattered phase to i₀ out i = to - i
@@ -29,7 +29,7 @@ carriers-per-segment-requires c κs = search needs
 
 add-to : tie.Need-add-to Inv-loop μ-loop
 add-to c =
-    let s = c .before .before .before .before .before .before .before in
+    let s = c .before .before .before .before .before .before .before .before in
     omega (arith, small (s .pre .0) (s .pre .1), c .carriers-per-segment .ensures)
 
 loop-holds : tie.Need-loop-holds Inv-loop μ-loop
@@ -48,7 +48,7 @@ mul-k : tie.Need-mul-k Inv-loop μ-loop
 mul-k c =
     let t = c .before in
     let f = t .before .before in
-    let s = f .before .before .before .before .before .before .before in
+    let s = f .before .before .before .before .before .before .before .before in
     let l : t .before .loop .i ≤ 13 * segmentPoints (s .args .plan .mode) = omega (arith, t .loop-test .taken, f .carriers-per-segment .ensures, s .pre .1) in
     omega (arith, small (s .pre .0) l)
 
@@ -56,7 +56,7 @@ shared-slice-read-estimate-at : tie.Need-shared-slice-read-estimate-at Inv-loop 
 shared-slice-read-estimate-at c =
     let t = c .before .before in
     let f = t .before .before in
-    let s = f .before .before .before .before .before .before .before in
+    let s = f .before .before .before .before .before .before .before .before in
     let l : t .before .loop .i ≤ 13 * segmentPoints (s .args .plan .mode) = omega (arith, t .loop-test .taken, f .carriers-per-segment .ensures, s .pre .1) in
     signed-there (s .pre .0) l
 
@@ -64,7 +64,7 @@ estimate-at-requires : tie.Need-estimate-at-requires Inv-loop μ-loop
 estimate-at-requires c κs =
     let t = c .before .before in
     let f = t .before .before in
-    let s = f .before .before .before .before .before .before .before in
+    let s = f .before .before .before .before .before .before .before .before in
     let l : t .before .loop .i ≤ 13 * segmentPoints (s .args .plan .mode) = omega (arith, t .loop-test .taken, f .carriers-per-segment .ensures, s .pre .1) in
     fitting (s .pre .0) l (c .before .at .ensures .ago _ (s .pre .0 .scattered))
 
@@ -72,7 +72,7 @@ put-pair-requires : tie.Need-put-pair-requires Inv-loop μ-loop
 put-pair-requires c κs =
     let t = c .before .before .before .before in
     let f = t .before .before in
-    let s = f .before .before .before .before .before .before .before in
+    let s = f .before .before .before .before .before .before .before .before in
     let l : t .before .loop .i ≤ 13 * segmentPoints (s .args .plan .mode) = omega (arith, t .loop-test .taken, f .carriers-per-segment .ensures, s .pre .1) in
     omega (arith, room-there (s .pre .0) l, t .before .loop .inv .2 .size)
 
@@ -80,7 +80,7 @@ add-i : tie.Need-add-i Inv-loop μ-loop
 add-i c =
     let t = c .before .before .before .before .before .before .before in
     let f = t .before .before in
-    let s = f .before .before .before .before .before .before .before in
+    let s = f .before .before .before .before .before .before .before .before in
     let l : t .before .loop .i ≤ 13 * segmentPoints (s .args .plan .mode) = omega (arith, t .loop-test .taken, f .carriers-per-segment .ensures, s .pre .1) in
     omega (arith, small (s .pre .0) l)
 
@@ -91,7 +91,7 @@ loop-again : tie.Need-loop-again Inv-loop μ-loop
 loop-again c =
     let t = c .before .before .before .before .before .before .before in
     let f = t .before .before in
-    let s = f .before .before .before .before .before .before .before in
+    let s = f .before .before .before .before .before .before .before .before in
     let l : t .before .loop .i ≤ 13 * segmentPoints (s .args .plan .mode) = omega (arith, t .loop-test .taken, f .carriers-per-segment .ensures, s .pre .1) in
     let e = c .before .before .before .before in (
       omega (arith, t .before .loop .inv .0),
@@ -106,7 +106,7 @@ same-length c = c .before .loop .inv .2 .size
 returns : tie.Need-returns Inv-loop μ-loop
 returns c =
     let f = c .before .before in
-    let s = f .before .before .before .before .before .before .before in
+    let s = f .before .before .before .before .before .before .before .before in
     let z : c .before .loop .i ≡ s .args .from + segmentPoints (s .args .plan .mode) = omega (arith, c .loop-test .left, c .before .loop .inv .1, f .carriers-per-segment .ensures) in
     rw z at (exchanged (c .before .loop .inv .2) (λ j a b. by-plan (s .pre .0) (3 * j) _))
 
