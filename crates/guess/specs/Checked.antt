@@ -1,5 +1,5 @@
--- Document 01's checked values of the guess, only 1/32 tried in mode 1: 10,559 pairs find nothing whatever they hold; 10,560 pairs of (1, 0) find
--- offset 0.
+-- Document 01's checked values of the guess, only 1/32 tried in mode 1 and any scratch that is long enough: 10,559 pairs find nothing whatever they
+-- hold; 10,560 pairs of (1, 0) find offset 0, with metric 1 and the correlation (256, 0).
 -- Assumes nothing.
 use Prim.Native.Nat.{ℕ, zero, suc, _+_, _-_, _*_, _/_, _≤_, _<_, suc-le-suc}
 use mathlib.Core.Bool.{Bool, true, false, cond}
@@ -11,7 +11,7 @@ use borrow.Author.Tests.{lt-ltb, le-ltb, le-leb, lt-leb}
 use lib.Dec.{leb, ltb, lit<, lit≤}
 use lib.IntN.{pos}
 use lib.ListN.{length, getD}
-use lib.Ieee.{Float, nan, fin, binary32, binary64, ofBits, round, neg, sum, add, sub, mul, div, lt, le}
+use lib.Ieee.{Float, Format, nan, fin, binary32, binary64, ofBits, round, neg, sum, add, sub, mul, div, lt, le}
 use lib.Ieee.Exact.{HasValue}
 use lib.Ieee.Back.{round-whole}
 use Rattle.ieee.specs.Constants.{plusZero, half}
@@ -25,6 +25,7 @@ use Rattle.spectra.specs.Spectra.{pairAt}
 use Rattle.guess.specs.Samples.{fftOf, guardOf, symbolOf}
 use Rattle.guess.specs.Guess.{pairsIn, lagsIn, lagProduct, lagEnergy, realPrefixes, imaginaryPrefixes, energyPrefixes}
 use Rattle.guess.specs.Guess.{starts, windowSum, correlationAt, energyAt, guessAt, offered, scan, triedGuard, triedMode, guessed}
+use Rattle.guess.specs.Guess.{guessCode, guessAnswer}
 use Rattle.guess.specs.Facts.{first-taken, only-greater}
 use Rattle.guess.specs.declared.ModeGuess.{ModeGuess}
 use Rattle.guess.specs.declared.GuardSearch.{GuardSearch}
@@ -54,12 +55,23 @@ module _ (xs : List Float) (mode guard : ℕ) where
   alone-guard h =
       ap (λ (b : Bool). cond b (scan (offered xs mode guard) Nothing (range (symbolOf mode guard))) Nothing) (le-leb need (lagsIn (fftOf mode) xs) h)
 
-pub one-short : (xs : List Float) → length xs ≡ 2 * 10559 → guessed xs (1 ∷ []) (32 ∷ []) ≡ Nothing
-one-short xs n = alone-short xs 1 32 (rw n (lit< tt))
+-- a call that nothing refuses
+not-refused : (xs : List Float) (modes guards : List ℕ) (scratch : ℕ) → guessCode modes guards (length xs) scratch ≡ 0
+    → guessAnswer xs modes guards scratch ≡ guessed xs modes guards
+unfolding guessAnswer
+not-refused xs modes guards scratch e = rw e
 
--- 1.0
-abbrev pub one : Float
-one = ofBits binary32 0x3f80_0000
+code-10559 : (floats scratch : ℕ) → floats ≡ 2 * 10559 → 3 * 10560 ≤ scratch → guessCode (1 ∷ []) (32 ∷ []) floats scratch ≡ 0
+unfolding guessCode
+code-10559 floats scratch n r = rw (n, le-leb 31680 scratch r)
+
+code-10560 : (floats scratch : ℕ) → floats ≡ 2 * 10560 → 3 * 10561 ≤ scratch → guessCode (1 ∷ []) (32 ∷ []) floats scratch ≡ 0
+unfolding guessCode
+code-10560 floats scratch n r = rw (n, le-leb 31683 scratch r)
+
+pub one-short : (xs : List Float) (scratch : ℕ) → length xs ≡ 2 * 10559 → 3 * 10560 ≤ scratch → guessAnswer xs (1 ∷ []) (32 ∷ []) scratch ≡ Nothing
+one-short xs scratch n r =
+    not-refused xs (1 ∷ []) (32 ∷ []) scratch (code-10559 (length xs) scratch n r) ∙ alone-short xs 1 32 (rw n (lit< tt))
 
 -- ---- a search whose first entry is taken and never replaced
 scan-last : (f : GuardSearch → ℕ → GuardSearch) (b : GuardSearch) (xs : List ℕ) (x : ℕ) → scan f b (xs ++ (x ∷ [])) ≡ f (scan f b xs) x
@@ -78,9 +90,12 @@ module _ (f : GuardSearch → ℕ → GuardSearch) (g : ModeGuess) (taken : f No
       ∙ ap (λ (b : GuardSearch). f b (suc m)) (first-stays (suc m) m refl (λ d l. k d (omega arith)))
       ∙ k (suc m) (omega arith)
 
--- ---- whole numbers as floats
+-- ---- whole numbers as floats: n / 1, rounded, which is n where it is small enough
+abbrev pub whole : Format → ℕ → Float
+whole f n = round f false n 1
+
 abbrev number : ℕ → Float
-number n = round binary64 false n 1
+number n = whole binary64 n
 
 -- up to as many as are looked at
 number-value : (n : ℕ) → n ≤ 8512 → HasValue (number n) false (n * 1) 1
@@ -177,8 +192,8 @@ module _ (v : ℕ → Float) (c g : Float) (start : v 0 ≡ plusZero binary64) (
 abbrev sample : Pair
 sample = pair (fin false 1 (pos 0)) (fin false 0 (pos 0))
 
-sample-is : pair one (plusZero binary32) ≡ sample
-unfolding ofBits
+sample-is : pair (whole binary32 1) (whole binary32 0) ≡ sample
+unfolding round
 sample-is = refl
 
 sample-product : product binary32 sample (conjugate sample) ≡ pair (number 1) (number 0)
@@ -222,7 +237,10 @@ unfolding ofBits round le
 some-above = refl
 
 -- ---- samples that are all (1, 0)
-module _ (xs : List Float) (n : length xs ≡ 2 * 10560) (h : (i : ℕ) → i < 10560 → pairAt xs i ≡ pair one (plusZero binary32)) where
+abbrev foundGuess : ModeGuess
+foundGuess = record { mode = 1; guard = 32; offset = 0; metric = whole binary64 1; re = whole binary64 256; im = whole binary64 0 }
+
+module _ (xs : List Float) (n : length xs ≡ 2 * 10560) (h : (i : ℕ) → i < 10560 → pairAt xs i ≡ pair (whole binary32 1) (whole binary32 0)) where
   abbrev lags : ℕ
   lags = lagsIn 2048 xs
 
@@ -275,10 +293,22 @@ module _ (xs : List Float) (n : length xs ≡ 2 * 10560) (h : (i : ℕ) → i < 
   no-greater : (d : ℕ) → d < 2112 → lt (guessAt xs 1 32 0 .metric) (guessAt xs 1 32 d .metric) ≡ false
   no-greater d D = (λ j. lt (metric-is 0 (lit< tt) j) (metric-is d D j)) ∙ one-not-less
 
-pub offset-zero : (xs : List Float) → length xs ≡ 2 * 10560 → ((i : ℕ) → i < 10560 → pairAt xs i ≡ pair one (plusZero binary32))
-    → guessed xs (1 ∷ []) (32 ∷ []) ≡ Found (guessAt xs 1 32 0)
-offset-zero xs n h =
-    alone-mode xs 1 32 (rw n (lit< tt))
-    ∙ alone-guard xs 1 32 (rw n (lit≤ tt))
-    ∙ first-stays (offered xs 1 32) (guessAt xs 1 32 0) (first-taken xs 1 32 0 (has-energy xs n h 0 (lit< tt))) (symbolOf 1 32) 2111 refl
-    (λ d l. only-greater xs 1 32 d (guessAt xs 1 32 0) (no-greater xs n h d l))
+  searched : guessed xs (1 ∷ []) (32 ∷ []) ≡ Found (guessAt xs 1 32 0)
+  searched =
+      alone-mode xs 1 32 (rw n (lit< tt))
+      ∙ alone-guard xs 1 32 (rw n (lit≤ tt))
+      ∙ first-stays (offered xs 1 32) (guessAt xs 1 32 0) (first-taken xs 1 32 0 (has-energy 0 (lit< tt))) (symbolOf 1 32) 2111 refl
+      (λ d l. only-greater xs 1 32 d (guessAt xs 1 32 0) (no-greater d l))
+
+  guess-is : guessAt xs 1 32 0 ≡ foundGuess
+  unfolding guessAt
+  guess-is =
+      let c = correlation-is 0 (lit< tt) in
+      λ j. record { mode = 1; guard = 32; offset = 0; metric = metric-is 0 (lit< tt) j; re = c j .re; im = c j .im }
+
+pub offset-zero : (xs : List Float) (scratch : ℕ) → length xs ≡ 2 * 10560 → 3 * 10561 ≤ scratch
+    → ((i : ℕ) → i < 10560 → pairAt xs i ≡ pair (whole binary32 1) (whole binary32 0))
+    → guessAnswer xs (1 ∷ []) (32 ∷ []) scratch
+    ≡ Found (record { mode = 1; guard = 32; offset = 0; metric = whole binary64 1; re = whole binary64 256; im = whole binary64 0 })
+offset-zero xs scratch n r h =
+    not-refused xs (1 ∷ []) (32 ∷ []) scratch (code-10560 (length xs) scratch n r) ∙ searched xs n h ∙ ap Found (guess-is xs n h)
