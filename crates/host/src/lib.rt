@@ -17,12 +17,14 @@ ghost use Rattle.guess.specs.Samples.{samplesAnswer};
 ghost use Rattle.guess.specs.Guess.{guessAnswer, scratchLeaves};
 ghost use Rattle.tmcc.specs.Tmcc.{softAnswer};
 use carrier_lists::ContinualList;
+use chanest::Current;
 use complex::C32;
 use complex::C64;
 use guess::GuardSearch;
 use guess::SamplesNeeded;
 use ofdm::BandCarrier;
 use ofdm::BinLookup;
+use pilot_phase::PhaseAnswer;
 use pilot_phase::PilotPhase;
 use shift::ShiftAnswer;
 use tmcc::SoftTmcc;
@@ -73,7 +75,8 @@ pub extern "C" fn sillurwy_continual_list(
     out: &mut [u32],
     count: &mut usize,
 ) -> u8
-    ensures { λ r. ⌜ ContinualCount (modeFrom mode) (now (kinds .entry)) (now (out .entry)) (now (count .entry)) r (now (out .exit)) (now (count .exit)) ⌝ }
+    ensures { λ r. ⌜ ContinualCount (modeFrom mode) (now (kinds .entry)) (now (out .entry)) (now (count .entry)) r
+        (now (out .exit)) (now (count .exit)) ⌝ }
 {
     match carrier_lists::continual_list(mode, kinds, out) {
         ContinualList::Count(n) => {
@@ -92,7 +95,8 @@ pub extern "C" fn sillurwy_samples_needed(
     symbols: usize,
     samples: &mut usize,
 ) -> u8
-    ensures { λ r. ⌜ SamplesLent (samplesAnswer (now (modes .entry)) (now (guards .entry)) symbols) (now (samples .entry)) r (now (samples .exit)) ⌝ }
+    ensures { λ r. ⌜ SamplesLent (samplesAnswer (now (modes .entry)) (now (guards .entry)) symbols)
+        (now (samples .entry)) r (now (samples .exit)) ⌝ }
 {
     match guess::samples_needed(modes, guards, symbols) {
         SamplesNeeded::Samples(n) => {
@@ -119,7 +123,10 @@ pub extern "C" fn sillurwy_detect_mode(
     re: &mut f64,
     im: &mut f64,
 ) -> u8
-    ensures { λ r. ⌜ GuessLent (guessAnswer (now (samples .entry)) (now (modes .entry)) (now (guards .entry)) (length (now (scratch .entry)))) (now (found .entry)) (now (mode .entry)) (now (guard .entry)) (now (offset .entry)) (now (metric .entry)) (now (re .entry)) (now (im .entry)) r (now (found .exit)) (now (mode .exit)) (now (guard .exit)) (now (offset .exit)) (now (metric .exit)) (now (re .exit)) (now (im .exit)) × now (scratch .exit) ≡ scratchLeaves (length (now (samples .entry))) (now (modes .entry)) (now (guards .entry)) (now (scratch .entry)) ⌝ }
+    ensures { λ r. ⌜ GuessLent (guessAnswer (now (samples .entry)) (now (modes .entry)) (now (guards .entry)) (length (now (scratch .entry))))
+        (now (found .entry)) (now (mode .entry)) (now (guard .entry)) (now (offset .entry)) (now (metric .entry)) (now (re .entry)) (now (im .entry)) r
+        (now (found .exit)) (now (mode .exit)) (now (guard .exit)) (now (offset .exit)) (now (metric .exit)) (now (re .exit)) (now (im .exit))
+        × now (scratch .exit) ≡ scratchLeaves (length (now (samples .entry))) (now (modes .entry)) (now (guards .entry)) (now (scratch .entry)) ⌝ }
 {
     let search = guess::detect_mode(samples, modes, guards, scratch);
     let GuardSearch::Found(g) = search else {
@@ -148,7 +155,8 @@ pub extern "C" fn sillurwy_tmcc_soft(
     filter: u8,
     value: &mut f32,
 ) -> u8
-    ensures { λ r. ⌜ SoftLent (softAnswer (modeFrom mode) (now (kinds .entry)) (now (spectra .entry)) filter) (now (value .entry)) r (now (value .exit)) ⌝ }
+    ensures { λ r. ⌜ SoftLent (softAnswer (modeFrom mode) (now (kinds .entry)) (now (spectra .entry)) filter)
+        (now (value .entry)) r (now (value .exit)) ⌝ }
 {
     match tmcc::tmcc_soft(mode, kinds, spectra, filter) {
         SoftTmcc::Value(v) => {
@@ -169,12 +177,13 @@ pub extern "C" fn sillurwy_integer_cfo(
     shift: &mut i64,
     score: &mut f32,
 ) -> u8
-    ensures { λ r. ⌜ ShiftLent (modeFrom mode) (now (spectra .entry)) bound (now (ratios .entry)) (now (shift .entry)) (now (score .entry)) r (now (ratios .exit)) (now (shift .exit)) (now (score .exit)) ⌝ }
+    ensures { λ r. ⌜ ShiftLent (modeFrom mode) (now (spectra .entry)) bound (now (ratios .entry)) (now (shift .entry)) (now (score .entry)) r
+        (now (ratios .exit)) (now (shift .exit)) (now (score .exit)) ⌝ }
 {
     match shift::integer_cfo(mode, spectra, bound, ratios) {
-        ShiftAnswer::Shift(z, s) => {
-            *shift = z;
-            *score = s;
+        ShiftAnswer::Found(found) => {
+            *shift = found.shift;
+            *score = found.score;
             0
         }
         ShiftAnswer::Refused(code) => code,
@@ -190,7 +199,8 @@ pub extern "C" fn sillurwy_detect_kinds(
     kinds: &mut [u8; 13],
     scores: &mut [f32; 13],
 ) -> u8
-    ensures { λ r. ⌜ KindsLent (modeFrom mode) (now (spectra .entry)) (now (ratios .entry)) (now (kinds .entry)) (now (scores .entry)) r (now (ratios .exit)) (now (kinds .exit)) (now (scores .exit)) ⌝ }
+    ensures { λ r. ⌜ KindsLent (modeFrom mode) (now (spectra .entry)) (now (ratios .entry)) (now (kinds .entry)) (now (scores .entry)) r
+        (now (ratios .exit)) (now (kinds .exit)) (now (scores .exit)) ⌝ }
 {
     let answer = segment_kinds::detect_kinds(mode, spectra, ratios);
     let code = answer.code;
@@ -217,25 +227,28 @@ pub extern "C" fn sillurwy_detect_sp_phase(
     counts: &mut [u32; 4],
     lead: &mut u32,
 ) -> u8
-    ensures { λ r. ⌜ PhaseLent (modeFrom mode) (now (kinds .entry)) (now (spectra .entry)) (now (found .entry)) (now (phase .entry)) (now (share .entry)) (now (counts .entry)) (now (lead .entry)) r (now (found .exit)) (now (phase .exit)) (now (share .exit)) (now (counts .exit)) (now (lead .exit)) ⌝ }
+    ensures { λ r. ⌜ PhaseLent (modeFrom mode) (now (kinds .entry)) (now (spectra .entry))
+        (now (found .entry)) (now (phase .entry)) (now (share .entry)) (now (counts .entry)) (now (lead .entry)) r
+        (now (found .exit)) (now (phase .exit)) (now (share .exit)) (now (counts .exit)) (now (lead .exit)) ⌝ }
 {
-    let answer = pilot_phase::detect_sp_phase(mode, kinds, spectra);
-    let code = answer.code;
-    if code != 0 {
-        return code;
+    let result = pilot_phase::detect_sp_phase(mode, kinds, spectra);
+    let answer = result.answer;
+    match answer {
+        PhaseAnswer::Detected(pilots) => {
+            let votes = result.counts;
+            *counts = votes;
+            *lead = result.lead;
+            let PilotPhase::Phase(number, part) = pilots else {
+                *found = 0;
+                return 0;
+            };
+            *found = 1;
+            *phase = number;
+            *share = part;
+            0
+        }
+        PhaseAnswer::Refused(code) => code,
     }
-    let votes = answer.counts;
-    *counts = votes;
-    *lead = answer.lead;
-    let p = answer.phase;
-    let PilotPhase::Phase(number, part) = p else {
-        *found = 0;
-        return 0;
-    };
-    *found = 1;
-    *phase = number;
-    *share = part;
-    0
 }
 
 // The channel at the points of the grid.
@@ -249,9 +262,11 @@ pub extern "C" fn sillurwy_estimate_grid(
     w: usize,
     grid: &mut [f32],
 ) -> u8
-    ensures { λ r. ⌜ GridEstimated (modeFrom mode) phase (now (kinds .entry)) (now (spectra .entry)) index w (now (grid .entry)) r (now (grid .exit)) ⌝ }
+    ensures { λ r. ⌜ GridEstimated (modeFrom mode) (now (kinds .entry)) (now (spectra .entry)) (record { phase = phase; index = index; w = w })
+        (now (grid .entry)) r (now (grid .exit)) ⌝ }
 {
-    chanest::estimate_grid(mode, phase, kinds, spectra, index, w, grid)
+    let current = Current { phase, index, w };
+    chanest::estimate_grid(mode, kinds, spectra, current, grid)
 }
 
 // The f64 nearest to the root of x.

@@ -1,7 +1,6 @@
 -- `host::sillurwy_continual_list` meets its contract: the list's answer, taken apart.
 -- Assumes nothing.
-use mathlib.Core.Path.{sym, ap, _∙_}
-use Rattle.host.specs.Host.{continualCode, continualCount}
+use Rattle.host.proofs.Answers.{count-told}
 use borrow.Author.Needs.{needs}
 use Rattle.host.proofs.sillurwy_continual_list.Statement.{statement}
 use Rattle.host.proofs.sillurwy_continual_list.Tie as tie
@@ -19,13 +18,17 @@ same-length : tie.Need-same-length
 same-length c = search needs
 
 returns : tie.Need-returns
-returns c = record { code = sym (ap continualCode (sym (c .before .before .before .before .before .continual-list .ensures .answer) ∙ c .before .n .given .1)); counted = sym (ap (λ z. continualCount z (c .before .before .before .before .before .before .before .before .before .args .count .now)) (sym (c .before .before .before .before .before .continual-list .ensures .answer) ∙ c .before .n .given .1)); leaves = c .before .before .before .before .before .continual-list .ensures .leaves }
+returns c =
+    let s = c .before .before .before .before .before in
+    count-told (s .before .before .before .before .args .count .now) (s .continual-list .ensures) (c .before .n .given .1)
 
 same-length-2 : tie.Need-same-length-2
 same-length-2 c = search needs
 
 returns-2 : tie.Need-returns-2
-returns-2 c = record { code = sym (ap continualCode (sym (c .before .before .before .before .before .continual-list .ensures .answer) ∙ c .before .code .given .1)); counted = sym (ap (λ z. continualCount z (c .before .before .before .before .before .before .before .before .before .args .count .now)) (sym (c .before .before .before .before .before .continual-list .ensures .answer) ∙ c .before .code .given .1)); leaves = c .before .before .before .before .before .continual-list .ensures .leaves }
+returns-2 c =
+    let s = c .before .before .before .before .before in
+    count-told (s .before .before .before .before .args .count .now) (s .continual-list .ensures) (c .before .code .given .1)
 
 pub sillurwy-continual-list-spec : {M : Type 1} → statement M
 sillurwy-continual-list-spec =

@@ -15,7 +15,8 @@ same-length c = search needs
 returns : tie.Need-returns
 returns c =
     let h = c .before .before .before .detect-kinds .ensures in
-    record { code = h .code; kinds = kept _ _ _ _ (h .code) (c .if1 .taken); scores = kept _ _ _ _ (h .code) (c .if1 .taken); leaves = h .leaves }
+    let k = c .if1 .taken in
+    record { code = h .code; kinds = kept _ _ _ _ (h .code) k; scores = kept _ _ _ _ (h .code) k; leaves = h .leaves }
 
 same-length-2 : tie.Need-same-length-2
 same-length-2 c = search needs
@@ -24,7 +25,12 @@ returns-2 : tie.Need-returns-2
 returns-2 c =
     let h = c .before .before .before .before .before .detect-kinds .ensures in
     let z = c .before .before .if1 .left in
-    record { code = sym z ∙ h .code; kinds = taken _ _ _ _ _ (h .code) z (h .kinds); scores = taken _ _ _ _ _ (h .code) z (h .scores); leaves = h .leaves }
+    record {
+      code = sym z ∙ h .code;
+      kinds = taken _ _ _ _ _ (h .code) z (h .kinds);
+      scores = taken _ _ _ _ _ (h .code) z (h .scores);
+      leaves = h .leaves;
+    }
 
 pub sillurwy-detect-kinds-spec : {M : Type 1} → statement M
 sillurwy-detect-kinds-spec =

@@ -1,7 +1,7 @@
 -- `host::sillurwy_samples_needed` meets its contract: the answer, taken apart.
 -- Assumes nothing.
-use mathlib.Core.Path.{sym, ap, _∙_}
-use Rattle.host.specs.Host.{samplesCode, samplesOf}
+use mathlib.Core.Path.{sym, _∙_}
+use Rattle.host.proofs.Answers.{samples-told}
 use borrow.Author.Needs.{needs}
 use Rattle.host.proofs.sillurwy_samples_needed.Statement.{statement}
 use Rattle.host.proofs.sillurwy_samples_needed.Tie as tie
@@ -17,15 +17,13 @@ enum-known-code c = search needs
 
 returns : tie.Need-returns
 returns c =
-    let a = c .before .before .before .before .before .before .args in
-    let e = sym (c .before .before .before .samples-needed .ensures) ∙ c .before .n .given .1 in
-    record { code = sym (ap samplesCode e); samples = sym (ap (λ x. samplesOf x (a .samples .now)) e) }
+    let s = c .before .before .before in
+    samples-told (s .before .before .before .args .samples .now) (sym (c .before .n .given .1) ∙ s .samples-needed .ensures .answer)
 
 returns-2 : tie.Need-returns-2
 returns-2 c =
-    let a = c .before .before .before .before .before .before .args in
-    let e = sym (c .before .before .before .samples-needed .ensures) ∙ c .before .code .given .1 in
-    record { code = sym (ap samplesCode e); samples = sym (ap (λ x. samplesOf x (a .samples .now)) e) }
+    let s = c .before .before .before in
+    samples-told (s .before .before .before .args .samples .now) (sym (c .before .code .given .1) ∙ s .samples-needed .ensures .answer)
 
 pub sillurwy-samples-needed-spec : {M : Type 1} → statement M
 sillurwy-samples-needed-spec =

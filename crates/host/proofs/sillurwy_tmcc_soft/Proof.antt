@@ -1,7 +1,7 @@
 -- `host::sillurwy_tmcc_soft` meets its contract: the answer, taken apart.
 -- Assumes nothing.
-use mathlib.Core.Path.{sym, ap, _∙_}
-use Rattle.host.specs.Host.{softCode, softOf}
+use mathlib.Core.Path.{sym, _∙_}
+use Rattle.host.proofs.Answers.{soft-told}
 use borrow.Author.Needs.{needs}
 use Rattle.host.proofs.sillurwy_tmcc_soft.Statement.{statement}
 use Rattle.host.proofs.sillurwy_tmcc_soft.Tie as tie
@@ -17,15 +17,13 @@ enum-known-code c = search needs
 
 returns : tie.Need-returns
 returns c =
-    let a = c .before .before .before .before .before .before .args in
-    let e = sym (c .before .before .before .tmcc-soft .ensures) ∙ c .before .v .given .1 in
-    record { code = sym (ap softCode e); value = sym (ap (λ x. softOf x (a .value .now)) e) }
+    let s = c .before .before .before in
+    soft-told (s .before .before .before .args .value .now) (sym (c .before .v .given .1) ∙ s .tmcc-soft .ensures .answer)
 
 returns-2 : tie.Need-returns-2
 returns-2 c =
-    let a = c .before .before .before .before .before .before .args in
-    let e = sym (c .before .before .before .tmcc-soft .ensures) ∙ c .before .code .given .1 in
-    record { code = sym (ap softCode e); value = sym (ap (λ x. softOf x (a .value .now)) e) }
+    let s = c .before .before .before in
+    soft-told (s .before .before .before .args .value .now) (sym (c .before .code .given .1) ∙ s .tmcc-soft .ensures .answer)
 
 pub sillurwy-tmcc-soft-spec : {M : Type 1} → statement M
 sillurwy-tmcc-soft-spec =
