@@ -3,7 +3,8 @@
  *
  * Each operation returns 0 (SILLURWY_ACCEPTED) or the number of its refusal. Refusals are listed in
  * their order: where several are true, the first is given. A refusal leaves everything lent as it
- * was. Every number and every float may be handed over; an operation always returns.
+ * was, so nothing lent holds an answer unless 0 was returned. Every number and every float may be
+ * handed over; an operation always returns.
  *
  * A list is a pointer and a length, which counts entries and not bytes. What the caller owes:
  *   - no pointer is null, also where its length is 0, and each is aligned for its type;
@@ -196,10 +197,12 @@ uint8_t sillurwy_tmcc_soft(uint8_t mode, const uint8_t *kinds, size_t kinds_len,
                            const float *spectra, size_t spectra_len, uint8_t filter,
                            float *value);
 
-/* The phase of the scattered pilots in the first spectrum.
+/* The phase of the scattered pilots in spectrum 0, the first. That of spectrum `index` is
+ * (phase + index) mod 4, and this is what the grid asks for.
  *   kinds         thirteen, by segment number
  *   spectra       one behind another, 0 to SILLURWY_MOST_SPECTRA, each of k_total pairs by carrier
- *   found         1 if there are scattered pilots, else 0; then phase and share keep their contents
+ *   found         1 if there are scattered pilots, 0 if there are none; then phase and share keep
+ *                 their contents. A refusal says neither: it leaves `found` as it was too
  *   phase, share  the phase, 0 to 3, and the share of the votes that it has
  *   counts        the votes for each phase: SILLURWY_PHASES numbers; all 0 where found is 0
  *   lead          the largest count less the largest of the other three; 0 where found is 0
@@ -213,7 +216,8 @@ uint8_t sillurwy_detect_sp_phase(uint8_t mode, const uint8_t *kinds, size_t kind
 
 /* The pilot grid of a spectrum: the channel at every third carrier, from the pilots of the spectra
  * around it.
- *   phase    of the scattered pilots in the current spectrum, 0 to 3
+ *   phase    of the scattered pilots in the current spectrum, 0 to 3: where sillurwy_detect_sp_phase
+ *            gave p for the same spectra, (p + index) mod 4, since it answers for spectrum 0
  *   kinds    thirteen, by segment number
  *   spectra  consecutive, one behind another, 1 to SILLURWY_MOST_SPECTRA, each of k_total pairs by
  *            carrier: 2 x SILLURWY_TOTAL_CARRIERS(mode) floats

@@ -16,7 +16,9 @@ pub fn grid_length(mode: Mode) -> usize {
 /// spectra around it. Points that are not estimated are zeros.
 ///
 /// The spectra are consecutive, each of k_total pairs by carrier; `index` is the current one, `phase`
-/// its phase, `w` the time window.
+/// its phase, `w` the time window. Where
+/// [`detect_sp_phase`](crate::pilot_phase::detect_sp_phase) gave a phase, which is that of spectrum
+/// 0, the current one has [`phase.at(index)`](Phase::at).
 ///
 /// Refused: [`BadFloats`](Refusal::BadFloats) unless whole spectra, at most
 /// [`MOST_SPECTRA`](crate::MOST_SPECTRA); [`NoSpectra`](Refusal::NoSpectra);
@@ -24,24 +26,39 @@ pub fn grid_length(mode: Mode) -> usize {
 ///
 /// ```
 /// use sillurwy::chanest::estimate_grid;
+/// use sillurwy::frame::{role_map, CarrierRole};
 /// use sillurwy::params::{Mode, Phase, SegmentKind};
+/// use sillurwy::pilot_phase::{detect_sp_phase, PilotPhase};
 /// use sillurwy::prbs::sign_map;
 /// use sillurwy::Refusal;
-///
-/// // Three spectra in which every carrier is its pilot, through a channel of 2i.
-/// let pilot = |sign: &u8| if *sign == 0 { 4.0 / 3.0 } else { -4.0 / 3.0 };
-/// let signs = sign_map(Mode::M1)?;
-/// let spectrum: Vec<f32> = signs.iter().flat_map(|s| [0.0, 2.0 * pilot(s)]).collect();
-/// let spectra = spectrum.repeat(3);
 ///
 /// // Segment 11 has the lowest place. It alone is coherent, 36 points, and the 37th closes it.
 /// let mut kinds = [SegmentKind::Differential; 13];
 /// kinds[11] = SegmentKind::Coherent;
-/// let grid = estimate_grid(Mode::M1, Phase::P0, &kinds, &spectra, 1, 1)?;
-/// assert_eq!(grid[..4], [0.0, 2.0, 0.0, 2.0]);
-/// assert_eq!(grid[2 * 36..2 * 37 + 2], [0.0, 2.0, 0.0, 0.0]);
 ///
-/// let refused = estimate_grid(Mode::M1, Phase::P0, &kinds, &spectra, 3, 1);
+/// // Seven spectra of the pilots alone, through a channel of 2i. The first one has phase 2.
+/// let signs = sign_map(Mode::M1)?;
+/// let mut spectra = Vec::new();
+/// for symbol in 0..7 {
+///     let roles = role_map(Mode::M1, Phase::P2.at(symbol), &kinds)?;
+///     for (role, sign) in roles.iter().zip(&signs) {
+///         let pilot = if *sign == 0 { 4.0 / 3.0 } else { -4.0 / 3.0 };
+///         let sent = matches!(role, CarrierRole::Sp | CarrierRole::Cp);
+///         spectra.extend([0.0, if sent { 2.0 * pilot } else { 0.0 }]);
+///     }
+/// }
+///
+/// // The phase that is found is that of spectrum 0; the grid is that of spectrum 3.
+/// let found = detect_sp_phase(Mode::M1, &kinds, &spectra)?;
+/// let PilotPhase::Phase(first, _) = found.phase else {
+///     panic!("a segment is coherent");
+/// };
+/// assert_eq!(first, Phase::P2);
+/// let grid = estimate_grid(Mode::M1, first.at(3), &kinds, &spectra, 3, 1)?;
+/// assert_eq!(grid[..2 * 37], [0.0, 2.0].repeat(37));
+/// assert_eq!(grid[2 * 37..], [0.0; 2 * (470 - 37)]);
+///
+/// let refused = estimate_grid(Mode::M1, first, &kinds, &spectra, 7, 1);
 /// assert_eq!(refused, Err(Refusal::BadIndex));
 /// # Ok::<(), Refusal>(())
 /// ```

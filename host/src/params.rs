@@ -180,7 +180,7 @@ pub fn kinds_from_codes(codes: &[u8]) -> Result<Kinds, Refusal> {
     Ok(kinds)
 }
 
-/// Phase of the scattered pilots in a symbol.
+/// Phase of the scattered pilots in a symbol. It goes up by one from symbol to symbol, from 3 to 0.
 ///
 /// ```
 /// use sillurwy::params::Phase;
@@ -218,7 +218,24 @@ impl Phase {
 
     /// The phase of the next symbol.
     pub fn next(self) -> Phase {
-        Self::ALL[(usize::from(self.number()) + 1) % Self::ALL.len()]
+        self.at(1)
+    }
+
+    /// The phase of spectrum `index`, where spectrum 0 has `self`: (phase + index) mod 4.
+    ///
+    /// [`detect_sp_phase`](crate::pilot_phase::detect_sp_phase) answers for spectrum 0, and
+    /// [`estimate_grid`](crate::chanest::estimate_grid) asks for the phase of spectrum `index`.
+    ///
+    /// ```
+    /// use sillurwy::params::Phase;
+    ///
+    /// assert_eq!(Phase::P2.at(0), Phase::P2);
+    /// assert_eq!(Phase::P2.at(3), Phase::P1);
+    /// assert_eq!(Phase::P2.at(1023), Phase::P1);
+    /// ```
+    pub fn at(self, index: usize) -> Phase {
+        let phases = Self::ALL.len();
+        Self::ALL[(usize::from(self.number()) + index % phases) % phases]
     }
 }
 
@@ -235,4 +252,35 @@ pub(crate) fn guard_codes(guards: &[GuardInterval]) -> *const u8 {
 
 pub(crate) fn kind_codes(kinds: &Kinds) -> *const u8 {
     kinds.as_ptr().cast()
+}
+
+#[cfg(test)]
+mod tests {
+    use super::*;
+
+    #[test]
+    fn a_phase_at_an_index_is_that_many_symbols_on() {
+        for phase in Phase::ALL {
+            let mut stepped = phase;
+            for index in 0..100 {
+                assert_eq!(phase.at(index), stepped);
+                stepped = stepped.next();
+            }
+        }
+        let order = [Phase::P1, Phase::P2, Phase::P3, Phase::P0];
+        assert_eq!(Phase::ALL.map(Phase::next), order);
+    }
+
+    #[test]
+    fn a_phase_is_there_for_every_index() {
+        for phase in Phase::ALL {
+            // The largest index is 3 mod 4.
+            assert_eq!(phase.at(usize::MAX), phase.at(3));
+            assert_eq!(phase.at(usize::MAX - 3), phase);
+            for index in (0..usize::BITS).map(|digit| usize::MAX >> digit) {
+                let sum = u128::from(phase.number()) + index as u128;
+                assert_eq!(u128::from(phase.at(index).number()), sum % 4);
+            }
+        }
+    }
 }

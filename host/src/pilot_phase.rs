@@ -4,12 +4,12 @@ use crate::ffi;
 use crate::params::{kind_codes, Kinds, Mode, Phase};
 use crate::refusal::{accepted, Refusal};
 
-/// The phase, if there is one.
+/// The phase, if there is one. A call that was refused gives neither of these, but a [`Refusal`].
 #[derive(Debug, Clone, Copy, PartialEq)]
 pub enum PilotPhase {
     /// No segment is coherent.
     NoScatteredPilots,
-    /// The phase of the first spectrum, and the share of the votes that it has.
+    /// The phase of spectrum 0, the first, and the share of the votes that it has.
     Phase(Phase, f32),
 }
 
@@ -24,7 +24,7 @@ pub struct PilotAnswer {
     pub lead: u32,
 }
 
-/// The phase of the scattered pilots.
+/// The phase of the scattered pilots in spectrum 0, the first; [`Phase::at`] has that of the others.
 ///
 /// Each spectrum has k_total pairs, by carrier, and votes once; there may be none.
 ///
@@ -34,14 +34,19 @@ pub struct PilotAnswer {
 /// ```
 /// use sillurwy::params::{Mode, Phase, SegmentKind};
 /// use sillurwy::pilot_phase::{detect_sp_phase, PilotPhase};
+/// use sillurwy::Refusal;
 ///
 /// // No spectra: ties go to the larger phase.
 /// let answer = detect_sp_phase(Mode::M1, &[SegmentKind::Coherent; 13], &[])?;
 /// assert_eq!(answer.phase, PilotPhase::Phase(Phase::P3, 0.0));
-/// let answer = detect_sp_phase(Mode::M1, &[SegmentKind::Differential; 13], &[])?;
+///
+/// // No coherent segment is an answer. A refusal is none, whatever the kinds are.
+/// let kinds = [SegmentKind::Differential; 13];
+/// let answer = detect_sp_phase(Mode::M1, &kinds, &[])?;
 /// assert_eq!(answer.phase, PilotPhase::NoScatteredPilots);
 /// assert_eq!((answer.counts, answer.lead), ([0; 4], 0));
-/// # Ok::<(), sillurwy::Refusal>(())
+/// assert_eq!(detect_sp_phase(Mode::M1, &kinds, &[0.0; 3]), Err(Refusal::BadFloats));
+/// # Ok::<(), Refusal>(())
 /// ```
 pub fn detect_sp_phase(mode: Mode, kinds: &Kinds, spectra: &[f32]) -> Result<PilotAnswer, Refusal> {
     let (mut found, mut number, mut share) = (0, 0, 0.0);

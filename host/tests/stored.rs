@@ -1,4 +1,4 @@
-//! Every wrapper, held to the stored answers of the oracle (oracle/README.md has their form).
+//! Every wrapper, compared with the stored answers of the oracle (oracle/README.md has their form).
 
 use sillurwy::params::{kinds_from_codes, GuardInterval, Kinds, Mode, Phase, SegmentKind};
 use sillurwy::pilot_phase::PilotPhase;

@@ -1,5 +1,5 @@
 //! What the oracle answers to each operation of acquisition: the refusals in their order, then what
-//! the Rust computes. Lengths of lent outputs are arguments, since refusals hang on them.
+//! the Rust computes. Lengths of lent outputs are arguments, since refusals depend on them.
 //!
 //! `untouched` compiles this file a second time. So what differs there is taken from `super`.
 

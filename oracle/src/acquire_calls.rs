@@ -1,13 +1,12 @@
-//! Calls of the operations of acquisition. Each is made to a port and held against the oracle, and
-//! against the untouched Rust: the code, every lent buffer, and what lies around it.
+//! Calls of the operations of acquisition. Each is made to a port and compared with the oracle, and
+//! with the untouched Rust: the code, every lent buffer, and what lies around it.
 
 use crate::acquire_answers as answers;
 use crate::acquire_port::{GuessOut, PhaseOut, Port};
-use crate::answers::Answer;
 use crate::calls::{Outcome, readable};
-use crate::check::code;
+use crate::check::Compared;
 use crate::isdb::params::SEGMENTS;
-use crate::lent::{Lent, Pattern, Shown};
+use crate::lent::{Lent, Shown};
 use crate::untouched::answers as untouched;
 use std::cmp::Ordering;
 use std::fmt;
@@ -69,27 +68,12 @@ impl fmt::Display for Floats {
 
 /// A call of one operation.
 pub trait Asked: Clone + Ord + fmt::Display + Send + Sync {
-    /// Makes the call to a port and holds it against the oracle, and against the untouched Rust
-    /// where that is compiled.
+    /// Makes the call to a port and compares it with the oracle, and with the untouched Rust where
+    /// that is compiled.
     fn run(&self, port: &Port, salt: u64) -> Outcome;
 
     /// The floats that it hands over.
     fn floats(&mut self) -> Option<&mut Floats>;
-}
-
-/// What a call leaves in one of its buffers.
-fn part<A, T>(answer: &Result<A, u8>, part: impl FnOnce(&A) -> Vec<T>) -> Answer<T> {
-    answer.as_ref().map(part).map_err(|&refusal| refusal)
-}
-
-/// The first difference in a lent buffer.
-fn differs<A, T: Pattern>(
-    lent: &Lent<T>,
-    name: &str,
-    answer: &Result<A, u8>,
-    written: impl FnOnce(&A) -> Vec<T>,
-) -> Option<String> {
-    lent.difference(name, &part(answer, written))
 }
 
 /// The shift.
@@ -121,14 +105,14 @@ impl Asked for ShiftCall {
             shift.entry(),
             score.entry(),
         );
-        let against = |answer: &Result<answers::Shift, u8>| {
-            code(given, answer)
-                .or_else(|| differs(&ratios, "ratios", answer, |a| a.ratios.clone()))
-                .or_else(|| differs(&shift, "shift", answer, |a| vec![a.shift]))
-                .or_else(|| differs(&score, "score", answer, |a| vec![a.score]))
-                .or_else(|| spectra.written("spectra"))
+        let compared = |answer: &Result<answers::Shift, u8>| {
+            Compared::of_code(given, answer)
+                .lent(&ratios, "ratios", answer, |a| a.ratios.clone())
+                .lent(&shift, "shift", answer, |a| vec![a.shift])
+                .lent(&score, "score", answer, |a| vec![a.score])
+                .shown(&spectra, "spectra")
         };
-        Outcome::of_both(&answer, &untouched, against)
+        Outcome::of_both(&answer, &untouched, compared)
     }
 
     fn floats(&mut self) -> Option<&mut Floats> {
@@ -178,14 +162,14 @@ impl Asked for KindsCall {
             kinds.array(),
             scores.array(),
         );
-        let against = |answer: &Result<answers::KindsFound, u8>| {
-            code(given, answer)
-                .or_else(|| differs(&ratios, "ratios", answer, |a| a.ratios.clone()))
-                .or_else(|| differs(&scores, "scores", answer, |a| a.scores.to_vec()))
-                .or_else(|| differs(&kinds, "kinds", answer, |a| a.kinds.to_vec()))
-                .or_else(|| spectra.written("spectra"))
+        let compared = |answer: &Result<answers::KindsFound, u8>| {
+            Compared::of_code(given, answer)
+                .lent(&ratios, "ratios", answer, |a| a.ratios.clone())
+                .lent(&scores, "scores", answer, |a| a.scores.to_vec())
+                .lent(&kinds, "kinds", answer, |a| a.kinds.to_vec())
+                .shown(&spectra, "spectra")
         };
-        Outcome::of_both(&answer, &untouched, against)
+        Outcome::of_both(&answer, &untouched, compared)
     }
 
     fn floats(&mut self) -> Option<&mut Floats> {
@@ -234,13 +218,13 @@ impl Asked for TmccCall {
             self.filter,
             value.entry(),
         );
-        let against = |answer: &_| {
-            code(given, answer)
-                .or_else(|| differs(&value, "value", answer, |&a| vec![a]))
-                .or_else(|| kinds.written("kinds"))
-                .or_else(|| spectra.written("spectra"))
+        let compared = |answer: &_| {
+            Compared::of_code(given, answer)
+                .lent(&value, "value", answer, |&a| vec![a])
+                .shown(&kinds, "kinds")
+                .shown(&spectra, "spectra")
         };
-        Outcome::of_both(&answer, &untouched, against)
+        Outcome::of_both(&answer, &untouched, compared)
     }
 
     fn floats(&mut self) -> Option<&mut Floats> {
@@ -292,17 +276,17 @@ impl Asked for PhaseCall {
         let is_found = |a: &answers::Phase| vec![u8::from(a.found.is_some())];
         let the_phase = |a: &answers::Phase| a.found.iter().map(|found| found.0).collect();
         let the_share = |a: &answers::Phase| a.found.iter().map(|found| found.1).collect();
-        let against = |answer: &_| {
-            code(given, answer)
-                .or_else(|| differs(&found, "found", answer, is_found))
-                .or_else(|| differs(&counts, "counts", answer, |a| a.counts.to_vec()))
-                .or_else(|| differs(&lead, "lead", answer, |a| vec![a.lead]))
-                .or_else(|| differs(&phase, "phase", answer, the_phase))
-                .or_else(|| differs(&share, "share", answer, the_share))
-                .or_else(|| kinds.written("kinds"))
-                .or_else(|| spectra.written("spectra"))
+        let compared = |answer: &_| {
+            Compared::of_code(given, answer)
+                .lent(&found, "found", answer, is_found)
+                .lent(&counts, "counts", answer, |a| a.counts.to_vec())
+                .lent(&lead, "lead", answer, |a| vec![a.lead])
+                .lent(&phase, "phase", answer, the_phase)
+                .lent(&share, "share", answer, the_share)
+                .shown(&kinds, "kinds")
+                .shown(&spectra, "spectra")
         };
-        Outcome::of_both(&answer, &untouched, against)
+        Outcome::of_both(&answer, &untouched, compared)
     }
 
     fn floats(&mut self) -> Option<&mut Floats> {
@@ -341,13 +325,13 @@ impl Asked for NeededCall {
         let mut samples = Lent::one(salt);
         let given =
             (port.samples_needed)(modes.slice(), guards.slice(), self.symbols, samples.entry());
-        let against = |answer: &_| {
-            code(given, answer)
-                .or_else(|| differs(&samples, "samples", answer, |&a| vec![a]))
-                .or_else(|| modes.written("modes"))
-                .or_else(|| guards.written("guards"))
+        let compared = |answer: &_| {
+            Compared::of_code(given, answer)
+                .lent(&samples, "samples", answer, |&a| vec![a])
+                .shown(&modes, "modes")
+                .shown(&guards, "guards")
         };
-        Outcome::of_both(&answer, &untouched, against)
+        Outcome::of_both(&answer, &untouched, compared)
     }
 
     fn floats(&mut self) -> Option<&mut Floats> {
@@ -418,27 +402,23 @@ impl GuessLent {
         }
     }
 
-    /// The first difference. What was not found is not written.
-    fn difference(&self, answer: &Result<Option<answers::Guess>, u8>) -> Option<String> {
+    /// Compares each of them. What was not found is not written.
+    fn compared(&self, given: u8, answer: &Result<Option<answers::Guess>, u8>) -> Compared {
         let is_found = |a: &Option<answers::Guess>| vec![u8::from(a.is_some())];
-        differs(&self.found, "found", answer, is_found)
-            .or_else(|| self.difference_of(&self.mode, "mode", answer, |a| a.mode))
-            .or_else(|| self.difference_of(&self.guard, "guard", answer, |a| a.guard))
-            .or_else(|| self.difference_of(&self.offset, "offset", answer, |a| a.offset))
-            .or_else(|| self.difference_of(&self.metric, "metric", answer, |a| a.metric))
-            .or_else(|| self.difference_of(&self.re, "re", answer, |a| a.re))
-            .or_else(|| self.difference_of(&self.im, "im", answer, |a| a.im))
+        Compared::of_code(given, answer)
+            .lent(&self.found, "found", answer, is_found)
+            .lent(&self.mode, "mode", answer, |a| each(a, |a| a.mode))
+            .lent(&self.guard, "guard", answer, |a| each(a, |a| a.guard))
+            .lent(&self.offset, "offset", answer, |a| each(a, |a| a.offset))
+            .lent(&self.metric, "metric", answer, |a| each(a, |a| a.metric))
+            .lent(&self.re, "re", answer, |a| each(a, |a| a.re))
+            .lent(&self.im, "im", answer, |a| each(a, |a| a.im))
     }
+}
 
-    fn difference_of<T: Pattern>(
-        &self,
-        lent: &Lent<T>,
-        name: &str,
-        answer: &Result<Option<answers::Guess>, u8>,
-        of: fn(&answers::Guess) -> T,
-    ) -> Option<String> {
-        differs(lent, name, answer, |a| a.iter().map(of).collect())
-    }
+/// A number of the guess, if there is one.
+fn each<T>(guess: &Option<answers::Guess>, of: fn(&answers::Guess) -> T) -> Vec<T> {
+    guess.iter().map(of).collect()
 }
 
 impl Asked for GuessCall {
@@ -458,15 +438,15 @@ impl Asked for GuessCall {
             guess.out(),
         );
         let zeros = |_: &Option<answers::Guess>| vec![0.0; self.scratch];
-        let against = |answer: &_| {
-            code(given, answer)
-                .or_else(|| guess.difference(answer))
-                .or_else(|| differs(&scratch, "scratch", answer, zeros))
-                .or_else(|| samples.written("samples"))
-                .or_else(|| modes.written("modes"))
-                .or_else(|| guards.written("guards"))
+        let compared = |answer: &_| {
+            guess
+                .compared(given, answer)
+                .lent(&scratch, "scratch", answer, zeros)
+                .shown(&samples, "samples")
+                .shown(&modes, "modes")
+                .shown(&guards, "guards")
         };
-        Outcome::of_both(&answer, &untouched, against)
+        Outcome::of_both(&answer, &untouched, compared)
     }
 
     fn floats(&mut self) -> Option<&mut Floats> {

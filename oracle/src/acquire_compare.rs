@@ -1,4 +1,4 @@
-//! Holds a port of acquisition and of the grid against the oracle, on calls at the boundaries and on
+//! Compares a port of acquisition and of the grid with the oracle, on calls at the boundaries and on
 //! random ones.
 
 use crate::acquire_calls::{
@@ -51,9 +51,11 @@ fn compare_calls<C: Asked>(
             refused,
             difference,
             departs,
+            nans_left,
         } = call.run(port, index as u64);
         tally.count(refused, difference, || call);
         tally.count_departure(departs);
+        tally.count_nans_left(refused, nans_left);
     });
     tally.simplify(|call, found| {
         simpler(call, found, C::floats, |call| call.run(port, 0).difference)

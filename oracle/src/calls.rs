@@ -1,7 +1,7 @@
 //! Calls of the port's operations: those at the boundaries of every refusal, and random ones.
 
 use crate::answers::{self, data_count};
-use crate::check;
+use crate::check::{self, Compared};
 use crate::codes::{MODES, kind_bytes, mode_of};
 use crate::isdb::params::{Mode, SEGMENTS};
 use crate::rng::Rng;
@@ -83,6 +83,8 @@ pub struct Outcome {
     pub difference: Option<String>,
     /// If the untouched Rust departs from the port; none where it was not asked.
     pub departs: Option<bool>,
+    /// NaNs that were lent and had to be left, whose bytes were compared.
+    pub nans_left: u64,
 }
 
 impl Outcome {
@@ -92,25 +94,34 @@ impl Outcome {
             refused: answer.is_err(),
             difference,
             departs: None,
+            nans_left: 0,
         }
     }
 
-    /// The outcome where the oracle and the untouched Rust gave answers, each of which is held
-    /// `against` what the port gave.
+    /// The same of a call with lent floats.
+    pub fn of<T>(answer: &Result<T, u8>, compared: Compared) -> Self {
+        Self {
+            nans_left: compared.nans_left,
+            ..Self::new(answer, compared.difference)
+        }
+    }
+
+    /// The outcome where the oracle and the untouched Rust gave answers, each of which is `compared`
+    /// with what the port gave.
     pub fn of_both<T>(
         answer: &Result<T, u8>,
         untouched: &Result<T, u8>,
-        against: impl Fn(&Result<T, u8>) -> Option<String>,
+        compared: impl Fn(&Result<T, u8>) -> Compared,
     ) -> Self {
         Self {
-            departs: Some(against(untouched).is_some()),
-            ..Self::new(answer, against(answer))
+            departs: Some(compared(untouched).difference.is_some()),
+            ..Self::of(answer, compared(answer))
         }
     }
 }
 
 impl Call {
-    /// Makes the call to the port and holds it against the oracle.
+    /// Makes the call to the port and compares it with the oracle.
     pub fn run(&self, salt: u64) -> Outcome {
         match self {
             &Call::CarrierBin { mode, k } => {

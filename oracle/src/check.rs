@@ -1,14 +1,56 @@
-//! One call to the port, held against the oracle's answer: the code, every lent buffer, and what
+//! One call to the port, compared with the oracle's answer: the code, every lent buffer, and what
 //! lies around it. Each function gives the first difference.
 
 use crate::answers::Answer;
 use crate::ffi;
-use crate::lent::{Lent, Shown};
+use crate::lent::{Lent, Pattern, Shown};
 
 /// A difference in the code.
 pub fn code<T>(port: u8, answer: &Result<T, u8>) -> Option<String> {
     let oracle = answer.as_ref().err().copied().unwrap_or(0);
     (port != oracle).then(|| format!("code: oracle {oracle}, port {port}"))
+}
+
+/// What came of comparing a call part by part: its code, what it was lent, what it was shown. Parts
+/// after the first difference are not compared.
+#[derive(Debug)]
+pub struct Compared {
+    /// The first difference.
+    pub difference: Option<String>,
+    /// NaNs that were lent and had to be left, whose bytes were compared.
+    pub nans_left: u64,
+}
+
+impl Compared {
+    /// The code.
+    pub fn of_code<A>(port: u8, answer: &Result<A, u8>) -> Self {
+        Self {
+            difference: code(port, answer),
+            nans_left: 0,
+        }
+    }
+
+    /// A lent buffer, and what an accepted call writes to it.
+    pub fn lent<A, T: Pattern>(
+        mut self,
+        lent: &Lent<T>,
+        name: &str,
+        answer: &Result<A, u8>,
+        written: impl FnOnce(&A) -> Vec<T>,
+    ) -> Self {
+        if self.difference.is_none() {
+            let answer = answer.as_ref().map(written).map_err(|&refusal| refusal);
+            self.difference = lent.difference(name, &answer);
+            self.nans_left += lent.nans_left(&answer);
+        }
+        self
+    }
+
+    /// Values that were lent to be read.
+    pub fn shown<T: Pattern>(mut self, shown: &Shown<'_, T>, name: &str) -> Self {
+        self.difference = self.difference.or_else(|| shown.written(name));
+        self
+    }
 }
 
 /// Bin lookup.

@@ -1,6 +1,6 @@
 //! What is claimed of the port under changes of a capture, tried out on numbers: what must stay, stays
 //! bit for bit. The requirement's section "What demand 3 compares" says what is compared. All changes
-//! of a case are made together, and the port is held against itself.
+//! of a case are made together, and the port is compared with itself.
 
 use crate::acquire_answers::{Guess, KindsFound, Phase, Shift, scratch_needed};
 use crate::acquire_calls::Floats;
@@ -399,7 +399,7 @@ fn samples_for(
     samples::received_whole(rng, mode, guard, pairs)
 }
 
-/// What a guess is held against: mode, guard and offset, then metric and both parts.
+/// What is compared of a guess: mode, guard and offset, then metric and both parts.
 fn guess_parts(guess: &Option<Guess>, gain: f64) -> (Option<(u8, u8, usize)>, [f64; 3]) {
     let places = guess.map(|guess| (guess.mode, guess.guard, guess.offset));
     let values = guess.map_or([0.0; 3], |guess| {

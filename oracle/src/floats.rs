@@ -1,5 +1,5 @@
-//! The port's functions of floats, held against the Rust's: bit for bit, all NaNs alike. The norms are
-//! held against the untouched Rust's too.
+//! The port's functions of floats, compared with the Rust's: bit for bit, all NaNs alike. The norms are
+//! compared with the untouched Rust's too.
 
 use crate::complex::hypot;
 use crate::ffi;

@@ -1,10 +1,10 @@
-//! Calls of the grid. Each is made to a port and held against the oracle: the code, the lent grid, and
+//! Calls of the grid. Each is made to a port and compared with the oracle: the code, the lent grid, and
 //! what lies around it.
 
 use crate::acquire_calls::{Asked, Floats};
 use crate::acquire_port::Port;
 use crate::calls::{Outcome, readable};
-use crate::check::code;
+use crate::check::Compared;
 use crate::grid_answers as answers;
 use crate::lent::{Lent, Shown};
 use std::fmt;
@@ -58,11 +58,11 @@ impl Asked for GridCall {
             self.w,
             grid.slice(),
         );
-        let difference = code(given, &answer)
-            .or_else(|| grid.difference("grid", &answer))
-            .or_else(|| kinds.written("kinds"))
-            .or_else(|| spectra.written("spectra"));
-        Outcome::new(&answer, difference)
+        let compared = Compared::of_code(given, &answer)
+            .lent(&grid, "grid", &answer, |points| points.clone())
+            .shown(&kinds, "kinds")
+            .shown(&spectra, "spectra");
+        Outcome::of(&answer, compared)
     }
 
     fn floats(&mut self) -> Option<&mut Floats> {

@@ -1,5 +1,8 @@
 //! A buffer to lend to the port: a known pattern fills it and a margin on both sides, so that every
 //! entry that was written, or was left, can be told afterwards.
+//!
+//! Half of the floats are lent as NaNs. What is written is compared as a value, all NaNs alike; what
+//! must be left as it was is compared by its bytes, NaNs too.
 
 use crate::answers::Answer;
 use crate::floats::Value;
@@ -11,14 +14,15 @@ const MARGIN: usize = 16;
 
 /// A value with patterns that no operation writes.
 pub trait Pattern: Copy + PartialEq + Display {
-    /// The value that stands at place `i` before a call.
+    /// The value that stands at place `i` before a call. Of eight floats side by side four are NaNs,
+    /// quiet and signalling, of both signs, with digits of their own; which four depends on the salt.
     fn pattern(i: usize, salt: u64) -> Self;
 
     /// What stands around values that are lent to be read. It shows in the answer if it is read: of
     /// floats it is a NaN.
     fn around() -> Self;
 
-    /// The same value. All NaNs are alike; no pattern is a NaN.
+    /// The same value. All NaNs are alike.
     fn alike(self, other: Self) -> bool {
         self == other
     }
@@ -26,6 +30,11 @@ pub trait Pattern: Copy + PartialEq + Display {
     /// The same bits.
     fn same(self, other: Self) -> bool {
         self == other
+    }
+
+    /// True for a NaN.
+    fn is_nan(self) -> bool {
+        false
     }
 
     /// The value in a message, with its bits if it is a float.
@@ -37,6 +46,11 @@ pub trait Pattern: Copy + PartialEq + Display {
 /// The parts of a pattern that vary.
 fn mix(i: usize, salt: u64) -> u64 {
     (i as u64).wrapping_mul(37).wrapping_add(salt)
+}
+
+/// Of a pattern that is a NaN: if it is below zero, and if it is quiet.
+fn nan_sort(mix: u64) -> Option<(bool, bool)> {
+    (mix & 4 != 0).then_some((mix & 2 != 0, mix & 1 != 0))
 }
 
 impl Pattern for u8 {
@@ -84,9 +98,17 @@ impl Pattern for i64 {
 }
 
 impl Pattern for f32 {
-    /// A number about as large as 2^101, which a case meets by accident at most.
+    /// A NaN, or a number about as large as 2^101; a case meets either by accident at most.
     fn pattern(i: usize, salt: u64) -> f32 {
-        f32::from_bits(0x7200_0000 | (mix(i, salt) as u32 & 0xff_ffff))
+        let mix = mix(i, salt);
+        let digits = mix as u32;
+        f32::from_bits(match nan_sort(mix) {
+            None => 0x7200_0000 | digits & 0xff_ffff,
+            Some((below, quiet)) => {
+                let sort = u32::from(below) << 31 | u32::from(quiet) << 22;
+                sort | 0x7fa0_0000 | digits & 0x1f_ffff
+            }
+        })
     }
 
     fn around() -> f32 {
@@ -101,15 +123,27 @@ impl Pattern for f32 {
         self.to_bits() == other.to_bits()
     }
 
+    fn is_nan(self) -> bool {
+        f32::is_nan(self)
+    }
+
     fn shown(self) -> String {
         format!("{self:e} (bits {:#010x})", self.to_bits())
     }
 }
 
 impl Pattern for f64 {
-    /// A number about as large as 2^800, which a case meets by accident at most.
+    /// A NaN, or a number about as large as 2^800; a case meets either by accident at most.
     fn pattern(i: usize, salt: u64) -> f64 {
-        f64::from_bits(0x7200_0000_0000_0000 | (mix(i, salt) & 0xff_ffff_ffff))
+        let mix = mix(i, salt);
+        let digits = mix & 0xff_ffff_ffff;
+        f64::from_bits(match nan_sort(mix) {
+            None => 0x7200_0000_0000_0000 | digits,
+            Some((below, quiet)) => {
+                let sort = u64::from(below) << 63 | u64::from(quiet) << 51;
+                sort | 0x7ff4_0000_0000_0000 | digits
+            }
+        })
     }
 
     fn around() -> f64 {
@@ -122,6 +156,10 @@ impl Pattern for f64 {
 
     fn same(self, other: f64) -> bool {
         self.to_bits() == other.to_bits()
+    }
+
+    fn is_nan(self) -> bool {
+        f64::is_nan(self)
     }
 
     fn shown(self) -> String {
@@ -164,6 +202,31 @@ impl<'a, T: Pattern> Shown<'a, T> {
     }
 }
 
+/// An entry as it was lent, and as an answer wants it.
+struct Expected<T> {
+    lent: T,
+    wanted: T,
+}
+
+impl<T: Pattern> Expected<T> {
+    /// The answer leaves the entry as it was. An answer may name an entry that it leaves, as that of
+    /// the grid does.
+    fn is_left(&self) -> bool {
+        self.wanted.same(self.lent)
+    }
+
+    /// What is left has its bytes. What is written has its value, and no longer the bytes that were
+    /// lent, even where both are NaNs.
+    fn is_met_by(&self, held: T) -> bool {
+        let kept = held.same(self.lent);
+        kept == self.is_left() && (kept || held.alike(self.wanted))
+    }
+
+    fn is_nan_left(&self) -> bool {
+        self.lent.is_nan() && self.is_left()
+    }
+}
+
 /// A lent buffer with its margins.
 #[derive(Debug)]
 pub struct Lent<T> {
@@ -199,28 +262,42 @@ impl<T: Pattern> Lent<T> {
         &mut self.all[MARGIN..end]
     }
 
+    /// Entry `i` of the buffer and its margins, by what an answer writes.
+    fn expected(&self, i: usize, written: &[T]) -> Expected<T> {
+        let lent = T::pattern(i, self.salt);
+        let value = i.checked_sub(MARGIN).and_then(|at| written.get(at));
+        Expected {
+            lent,
+            wanted: value.copied().unwrap_or(lent),
+        }
+    }
+
     /// The first difference between what the buffer holds and what the answer leaves in it.
     pub fn difference(&self, name: &str, answer: &Answer<T>) -> Option<String> {
         let written: &[T] = answer.as_deref().unwrap_or(&[]);
         let held = black_box(&self.all);
-        let wanted = |i: usize| match i.checked_sub(MARGIN).and_then(|at| written.get(at)) {
-            Some(&value) => value,
-            None => T::pattern(i, self.salt),
-        };
-        let at = (0..held.len()).find(|&i| !held[i].alike(wanted(i)))?;
-        let differing = (at..held.len())
-            .filter(|&i| !held[i].alike(wanted(i)))
-            .count();
+        let differs = |&i: &usize| !self.expected(i, written).is_met_by(held[i]);
+        let at = (0..held.len()).find(differs)?;
+        let differing = (at..held.len()).filter(differs).count();
+        let expected = self.expected(at, written);
         Some(format!(
             "{}: oracle {}, port {} ({differing} differ)",
-            self.place(name, at, written.len()),
-            wanted(at).shown(),
+            self.place(name, at, expected.is_left()),
+            expected.wanted.shown(),
             held[at].shown(),
         ))
     }
 
+    /// How many NaNs were lent that the answer leaves: their bytes must be as they were.
+    pub fn nans_left(&self, answer: &Answer<T>) -> u64 {
+        let written: &[T] = answer.as_deref().unwrap_or(&[]);
+        let lent = MARGIN..self.all.len() - MARGIN;
+        let expected = lent.map(|i| self.expected(i, written));
+        expected.filter(Expected::is_nan_left).count() as u64
+    }
+
     /// Where entry `i` of the buffer and its margins lies.
-    fn place(&self, name: &str, i: usize, written: usize) -> String {
+    fn place(&self, name: &str, i: usize, left: bool) -> String {
         if i < MARGIN {
             return format!("memory {} before {name}", MARGIN - i);
         }
@@ -228,7 +305,7 @@ impl<T: Pattern> Lent<T> {
         let len = self.all.len() - 2 * MARGIN;
         if at >= len {
             format!("memory {} after {name}", at - len + 1)
-        } else if at >= written {
+        } else if left {
             format!("{name}[{at}], to be left as it was")
         } else {
             format!("{name}[{at}]")
@@ -266,6 +343,63 @@ mod tests {
         assert_eq!(lent.difference("out", &Ok(vec![0.0, f32::NAN])), None);
         assert!(lent.difference("out", &Ok(vec![-0.0, f32::NAN])).is_some());
         assert!(lent.difference("out", &Ok(vec![0.0])).is_some());
+    }
+
+    /// The floats that are lent, of a buffer of eight.
+    fn lent_nans(salt: u64) -> Vec<u32> {
+        let mut lent = Lent::<f32>::new(8, salt);
+        let bits = lent.slice().iter().map(|float| float.to_bits());
+        bits.filter(|&bits| f32::from_bits(bits).is_nan()).collect()
+    }
+
+    #[test]
+    fn half_of_the_floats_are_nans_of_every_sort() {
+        for salt in 0..64 {
+            let mut sorts: Vec<u32> = lent_nans(salt).iter().map(|bits| bits >> 22).collect();
+            sorts.sort_unstable();
+            // Signalling and quiet, then both below zero.
+            assert_eq!(sorts, [0x1fe, 0x1ff, 0x3fe, 0x3ff]);
+        }
+        assert_ne!(lent_nans(0), lent_nans(8));
+        let mut wide = Lent::<f64>::new(8, 0);
+        let nans = wide.slice().iter().filter(|float| float.is_nan());
+        let mut sorts: Vec<u64> = nans.map(|float| float.to_bits() >> 51).collect();
+        sorts.sort_unstable();
+        assert_eq!(sorts, [0xffe, 0xfff, 0x1ffe, 0x1fff]);
+    }
+
+    /// The first entry of the lent part that is a NaN, and a signalling one.
+    fn signalling(lent: &mut Lent<f32>) -> usize {
+        let is_signalling = |float: &f32| float.is_nan() && float.to_bits() & 1 << 22 == 0;
+        lent.slice()
+            .iter()
+            .position(is_signalling)
+            .expect("one of each eight")
+    }
+
+    #[test]
+    fn a_nan_that_is_left_keeps_its_bytes() {
+        let quieted = || {
+            let mut lent = Lent::<f32>::new(8, 5);
+            let (before, at) = (lent.slice().to_vec(), signalling(&mut lent));
+            let float = &mut lent.slice()[at];
+            *float = f32::from_bits(float.to_bits() | 1 << 22);
+            (lent, before)
+        };
+        let (lent, before) = quieted();
+        assert_eq!(lent.nans_left(&Err(7)), 4);
+        let found = lent.difference("grid", &Err(7)).unwrap();
+        assert!(found.contains("to be left as it was"), "{found}");
+        // Also where the answer names it among the others.
+        assert_eq!(lent.nans_left(&Ok(before.clone())), 4);
+        assert!(lent.difference("grid", &Ok(before)).is_some());
+        // Where a NaN is to be written, any other one is as good, but not the one that was lent.
+        let (lent, mut written) = quieted();
+        written[signalling(&mut Lent::new(8, 5))] = f32::NAN;
+        assert_eq!(lent.nans_left(&Ok(written.clone())), 3);
+        assert_eq!(lent.difference("grid", &Ok(written.clone())), None);
+        let untouched = Lent::<f32>::new(8, 5);
+        assert!(untouched.difference("grid", &Ok(written)).is_some());
     }
 
     #[test]

@@ -1,4 +1,4 @@
-//! The oracle: the Rust of isdb-rs, and what holds the proved port against it.
+//! The oracle: the Rust of isdb-rs, and what compares the proved port with it.
 //!
 //! `isdb` is the Rust that was carried over. `answers` turns it into the port's operations, with
 //! refusals where the Rust would panic. `ffi` calls the port. `check` makes one call to the port and
@@ -7,7 +7,7 @@
 //!
 //! For acquisition, `acquire_answers` and `acquire_port` stand in the places of `answers` and `ffi`,
 //! `acquire_calls` makes a call and compares, `acquire_cases` says which calls, and `captures` and
-//! `samples` make what is in them. `claims` holds the port against itself, on captures that `changes`
+//! `samples` make what is in them. `claims` compares the port with itself, on captures that `changes`
 //! changed. `untouched` answers as the Rust does whose norms are `hypot`.
 //!
 //! The grid has the same shape: `grid_answers`, `grid_port`, `grid_calls`, `grid_cases`.

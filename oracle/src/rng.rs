@@ -12,7 +12,7 @@ impl Rng {
         Self(seed)
     }
 
-    /// The generator of one case. Each case has its own, so that the cases do not hang on which
+    /// The generator of one case. Each case has its own, so that the cases do not depend on which
     /// thread runs them.
     pub fn for_case(seed: u64, stream: u64, index: u64) -> Self {
         let stream_seed = Self(seed).next_u64() ^ stream;

@@ -1,4 +1,4 @@
-//! Runs the program `segments` and holds what it prints against the oracle's answers.
+//! Runs the program `segments` and compares what it prints with the oracle's answers.
 
 use crate::segment_list::{answer, is_refusal, lines};
 use crate::tally::Tally;

@@ -4,6 +4,29 @@ use std::fmt::Display;
 use std::sync::atomic::{AtomicUsize, Ordering};
 use std::thread;
 
+/// NaNs that were lent and had to be left as they were: how many were compared by their bytes.
+#[derive(Debug, Clone, Copy, Default, PartialEq, Eq)]
+pub struct NansLeft {
+    /// After refusals.
+    pub refused: u64,
+    /// After accepted calls.
+    pub accepted: u64,
+}
+
+impl NansLeft {
+    fn add(&mut self, other: Self) {
+        self.refused += other.refused;
+        self.accepted += other.accepted;
+    }
+
+    /// The sum over the rows of a table.
+    pub fn sum(rows: &[Row]) -> Self {
+        let mut total = Self::default();
+        rows.iter().for_each(|row| total.add(row.nans_left));
+        total
+    }
+}
+
 /// What came of a number of cases whose inputs are of type `K`.
 #[derive(Debug)]
 pub struct Tally<K> {
@@ -11,6 +34,7 @@ pub struct Tally<K> {
     refused: u64,
     differences: u64,
     departures: Option<u64>,
+    nans_left: NansLeft,
     smallest: Option<(K, String)>,
 }
 
@@ -21,6 +45,7 @@ impl<K> Default for Tally<K> {
             refused: 0,
             differences: 0,
             departures: None,
+            nans_left: NansLeft::default(),
             smallest: None,
         }
     }
@@ -49,12 +74,22 @@ impl<K: Ord + Display> Tally<K> {
         }
     }
 
+    /// Counts NaNs that a call was lent and had to leave.
+    pub fn count_nans_left(&mut self, refused: bool, more: u64) {
+        if refused {
+            self.nans_left.refused += more;
+        } else {
+            self.nans_left.accepted += more;
+        }
+    }
+
     /// Adds what another tally counted.
     pub fn add(&mut self, other: Self) {
         self.cases += other.cases;
         self.refused += other.refused;
         self.differences += other.differences;
         self.add_departures(other.departures);
+        self.nans_left.add(other.nans_left);
         if let Some((input, found)) = other.smallest {
             self.keep_smaller(input, found);
         }
@@ -93,6 +128,7 @@ impl<K: Ord + Display> Tally<K> {
             refused: self.refused,
             differences: self.differences,
             departures: self.departures,
+            nans_left: self.nans_left,
             smallest: self
                 .smallest
                 .map(|(input, found)| format!("{input}\n    {found}")),
@@ -108,6 +144,7 @@ pub struct Row {
     refused: u64,
     differences: u64,
     departures: Option<u64>,
+    nans_left: NansLeft,
     smallest: Option<String>,
 }
 
@@ -127,6 +164,11 @@ impl Row {
         self.departures
     }
 
+    /// How many NaNs were lent that had to be left.
+    pub fn nans_left(&self) -> NansLeft {
+        self.nans_left
+    }
+
     /// The smallest failing input and what was found.
     pub fn smallest(&self) -> Option<&str> {
         self.smallest.as_deref()
@@ -135,7 +177,7 @@ impl Row {
 
 /// Why there is no number of departures.
 const NOT_ASKED: &str = "not asked. Where no norm is taken, the untouched Rust is the oracle itself; \
-                         changed captures hold the port against itself.";
+                         changed captures compare the port with itself.";
 
 /// Prints the table and the smallest failing inputs. Gives the number of differences.
 pub fn print_table(rows: &[Row]) -> u64 {
@@ -214,6 +256,18 @@ mod tests {
         let row = Tally::sum([asked, other]).row("sum");
         assert_eq!((row.cases(), row.differences()), (4, 0));
         assert_eq!((row.departures(), row.smallest()), (Some(2), None));
+    }
+
+    #[test]
+    fn nans_add_up() {
+        let mut parts = [Tally::<u8>::default(), Tally::default()];
+        parts[0].count_nans_left(true, 3);
+        parts[0].count_nans_left(false, 4);
+        parts[1].count_nans_left(true, 5);
+        let rows = [Tally::sum(parts).row("sum"), Tally::<u8>::default().row("")];
+        let (refused, accepted) = (8, 4);
+        assert_eq!(NansLeft::sum(&rows), NansLeft { refused, accepted });
+        assert_eq!(rows[0].nans_left(), NansLeft::sum(&rows));
     }
 
     #[test]

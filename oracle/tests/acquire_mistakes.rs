@@ -550,6 +550,130 @@ fn mistakes_in_the_guess_are_found() {
     is_found::<GuessCall>("the last guard only", last_only);
 }
 
+// ---- the bytes of what is left
+
+/// A signalling NaN becomes a quiet one, as it would by any operation on floats.
+fn quiet(float: &mut f32) {
+    if float.is_nan() {
+        *float = f32::from_bits(float.to_bits() | 1 << 22);
+    }
+}
+
+fn quiet64(float: &mut f64) {
+    if float.is_nan() {
+        *float = f64::from_bits(float.to_bits() | 1 << 51);
+    }
+}
+
+/// A port that does something to one of its buffers after a refusal.
+macro_rules! refusing {
+    ($operation:ident, ($($argument:ident),*), $change:expr) => {
+        Port {
+            $operation: |$($argument),*| {
+                let code = (RUST.$operation)($($argument),*);
+                if code != 0 {
+                    $change;
+                }
+                code
+            },
+            ..RUST
+        }
+    };
+}
+
+#[test]
+fn a_refusal_that_quiets_nans_is_found() {
+    is_found_at_boundary::<ShiftCall>(
+        "ratios",
+        refusing!(
+            integer_cfo,
+            (mode, spectra, bound, ratios, shift, score),
+            ratios.iter_mut().for_each(quiet)
+        ),
+    );
+    is_found_at_boundary::<ShiftCall>(
+        "score",
+        refusing!(
+            integer_cfo,
+            (mode, spectra, bound, ratios, shift, score),
+            quiet(score)
+        ),
+    );
+    is_found_at_boundary::<KindsCall>(
+        "scores",
+        refusing!(
+            detect_kinds,
+            (mode, spectra, ratios, kinds, scores),
+            scores.iter_mut().for_each(quiet)
+        ),
+    );
+    is_found_at_boundary::<TmccCall>(
+        "value",
+        refusing!(
+            tmcc_soft,
+            (mode, kinds, spectra, filter, value),
+            quiet(value)
+        ),
+    );
+    let share = phase_port(|mode, kinds, spectra, out| {
+        let answer = answers::detect_sp_phase(mode, kinds, spectra);
+        if answer.is_err() {
+            quiet(out.share);
+        }
+        write_phase(answer, out, |_| ())
+    });
+    is_found_at_boundary::<PhaseCall>("share", share);
+    let guess = guess_port(|samples, modes, guards, scratch, out| {
+        let answer = answers::detect_mode(samples, modes, guards, scratch.len());
+        if answer.is_err() {
+            quiet64(out.re);
+            quiet64(out.im);
+        }
+        write_guess(answer, scratch, out)
+    });
+    is_found_at_boundary::<GuessCall>("parts", guess);
+    let scratched = guess_port(|samples, modes, guards, scratch, out| {
+        let answer = answers::detect_mode(samples, modes, guards, scratch.len());
+        if answer.is_err() {
+            scratch.iter_mut().for_each(quiet64);
+        }
+        write_guess(answer, scratch, out)
+    });
+    is_found_at_boundary::<GuessCall>("scratch", scratched);
+}
+
+#[test]
+fn an_answer_that_quiets_what_it_leaves_is_found() {
+    let share = phase_port(|mode, kinds, spectra, out| {
+        let answer = answers::detect_sp_phase(mode, kinds, spectra);
+        if answer.as_ref().is_ok_and(|phase| phase.found.is_none()) {
+            quiet(out.share);
+        }
+        write_phase(answer, out, |_| ())
+    });
+    is_found_at_boundary::<PhaseCall>("share", share);
+    let metric = guess_port(|samples, modes, guards, scratch, out| {
+        let answer = answers::detect_mode(samples, modes, guards, scratch.len());
+        if answer.as_ref().is_ok_and(Option::is_none) {
+            quiet64(out.metric);
+        }
+        write_guess(answer, scratch, out)
+    });
+    is_found::<GuessCall>("metric", metric);
+}
+
+#[test]
+fn a_refusal_that_reads_as_a_verdict_is_found() {
+    let none = phase_port(|mode, kinds, spectra, out| {
+        let answer = answers::detect_sp_phase(mode, kinds, spectra);
+        if answer.is_err() {
+            *out.found = 0;
+        }
+        write_phase(answer, out, |_| ())
+    });
+    is_found_at_boundary::<PhaseCall>("no scattered pilots", none);
+}
+
 // ---- what is claimed of changed captures
 
 /// The shift with ratios of products that are not squared.
@@ -568,7 +692,7 @@ fn unsquared(spectra: &[f32], len: usize) -> Vec<f32> {
 }
 
 #[test]
-fn ratios_that_hang_on_a_sign_break_the_claims() {
+fn ratios_that_depend_on_a_sign_break_the_claims() {
     let shift = shift_port(|mode, spectra, bound, ratios, shift, score| {
         let code = (RUST.integer_cfo)(mode, spectra, bound, ratios, shift, score);
         if code == 0 {
@@ -588,7 +712,7 @@ fn ratios_that_hang_on_a_sign_break_the_claims() {
 }
 
 #[test]
-fn answers_that_hang_on_the_gain_break_the_claims() {
+fn answers_that_depend_on_the_gain_break_the_claims() {
     let phase = phase_port(|mode, kinds, spectra, out| {
         let answer = answers::detect_sp_phase(mode, kinds, spectra);
         let strong = spectra.iter().any(|&float| float > 40_000.0);

@@ -46,7 +46,7 @@ fn is_found_at_boundary(what: &str, estimate_grid: EstimateGrid) {
 
 // ---- the estimate, by rules that can be changed
 
-/// What the estimate of a grid hangs on.
+/// What the estimate of a grid depends on.
 #[derive(Clone, Copy)]
 struct Rules {
     /// A value without its pilot of a sign.
@@ -310,6 +310,48 @@ fn mistakes_in_the_points_are_found() {
             let ask = || answers::estimate_grid(mode, phase, kinds, spectra, next, w, grid);
             let answer = answer.map(|points| ask().unwrap_or(points));
             write_answer(answer, |points| grid.copy_from_slice(&points))
+        },
+    );
+}
+
+/// A signalling NaN becomes a quiet one, as it would by any operation on floats.
+fn quiet(float: &mut f32) {
+    if float.is_nan() {
+        *float = f32::from_bits(float.to_bits() | 1 << 22);
+    }
+}
+
+#[test]
+fn other_bytes_of_a_nan_are_found() {
+    is_found(
+        "NaNs that are left are quieted",
+        |mode, phase, kinds, spectra, index, w, grid| {
+            let code = (RUST.estimate_grid)(mode, phase, kinds, spectra, index, w, grid);
+            if code == 0 {
+                grid.iter_mut().for_each(quiet);
+            }
+            code
+        },
+    );
+    is_found(
+        "the plain NaN for every other one",
+        |mode, phase, kinds, spectra, index, w, grid| {
+            let code = (RUST.estimate_grid)(mode, phase, kinds, spectra, index, w, grid);
+            let nans = grid.iter_mut().filter(|float| float.is_nan());
+            if code == 0 {
+                nans.for_each(|float| *float = f32::from_bits(0x7fc0_0000));
+            }
+            code
+        },
+    );
+    is_found_at_boundary(
+        "a refusal that quiets NaNs",
+        |mode, phase, kinds, spectra, index, w, grid| {
+            let code = (RUST.estimate_grid)(mode, phase, kinds, spectra, index, w, grid);
+            if code != 0 {
+                grid.iter_mut().for_each(quiet);
+            }
+            code
         },
     );
 }

@@ -149,6 +149,14 @@ static void *a_buffer(struct bytes *in, const char *name, size_t len, size_t siz
     return lent(name, len, size, TO_WRITE, a_byte(in) % 2 == 0);
 }
 
+/* The same of floats or doubles, half of them NaNs. */
+static void *a_float_buffer(struct bytes *in, const char *name, size_t len, size_t size)
+{
+    void *at = a_buffer(in, name, len, size);
+    lent_nans(a_byte(in));
+    return at;
+}
+
 /* Numbers of bytes: kinds, modes or guards. */
 struct codes {
     const uint8_t *at;
@@ -451,14 +459,14 @@ static void detect_mode(struct bytes *in)
     struct codes guards = some_guards(in);
     size_t right = SILLURWY_SCRATCH_LENGTH(len / 2);
     size_t scratch_len = a_length(in, right);
-    double *scratch = a_buffer(in, "scratch", scratch_len, sizeof *scratch);
+    double *scratch = a_float_buffer(in, "scratch", scratch_len, sizeof *scratch);
     uint8_t *found = a_buffer(in, "found", 1, 1);
     uint8_t *mode = a_buffer(in, "mode", 1, 1);
     uint8_t *guard = a_buffer(in, "guard", 1, 1);
     size_t *offset = a_buffer(in, "offset", 1, sizeof *offset);
-    double *metric = a_buffer(in, "metric", 1, sizeof *metric);
-    double *re = a_buffer(in, "re", 1, sizeof *re);
-    double *im = a_buffer(in, "im", 1, sizeof *im);
+    double *metric = a_float_buffer(in, "metric", 1, sizeof *metric);
+    double *re = a_float_buffer(in, "re", 1, sizeof *re);
+    double *im = a_float_buffer(in, "im", 1, sizeof *im);
     lent_ready();
     uint8_t code =
         sillurwy_detect_mode(samples, len, modes.at, modes.len, guards.at, guards.len, scratch,
@@ -501,9 +509,9 @@ static void integer_cfo(struct bytes *in)
     const float *spectra = some_floats(in, "spectra", len);
     size_t bound = a_byte(in) < 128 ? below(in, 40) : a_bounded(in, n / 2);
     size_t ratios_len = a_length(in, n);
-    float *ratios = a_buffer(in, "ratios", ratios_len, sizeof *ratios);
+    float *ratios = a_float_buffer(in, "ratios", ratios_len, sizeof *ratios);
     int64_t *shift = a_buffer(in, "shift", 1, sizeof *shift);
-    float *score = a_buffer(in, "score", 1, sizeof *score);
+    float *score = a_float_buffer(in, "score", 1, sizeof *score);
     lent_ready();
     uint8_t code =
         sillurwy_integer_cfo(mode, spectra, len, bound, ratios, ratios_len, shift, score);
@@ -525,9 +533,9 @@ static void detect_kinds(struct bytes *in)
     size_t len = some_spectra(in, k_total);
     const float *spectra = some_floats(in, "spectra", len);
     size_t ratios_len = a_length(in, k_total);
-    float *ratios = a_buffer(in, "ratios", ratios_len, sizeof *ratios);
+    float *ratios = a_float_buffer(in, "ratios", ratios_len, sizeof *ratios);
     uint8_t *kinds = a_buffer(in, "kinds", SILLURWY_SEGMENTS, 1);
-    float *scores = a_buffer(in, "scores", SILLURWY_SEGMENTS, sizeof *scores);
+    float *scores = a_float_buffer(in, "scores", SILLURWY_SEGMENTS, sizeof *scores);
     lent_ready();
     uint8_t code = sillurwy_detect_kinds(mode, spectra, len, ratios, ratios_len, kinds, scores);
     uint8_t owed = bad_mode(mode)              ? 1
@@ -548,7 +556,7 @@ static void tmcc_soft(struct bytes *in)
     size_t len = a_length(in, 4 * k_total);
     const float *spectra = some_floats(in, "spectra", len);
     uint8_t filter = a_filter(in);
-    float *value = a_buffer(in, "value", 1, sizeof *value);
+    float *value = a_float_buffer(in, "value", 1, sizeof *value);
     lent_ready();
     uint8_t code = sillurwy_tmcc_soft(mode, kinds.at, kinds.len, spectra, len, filter, value);
     uint8_t owed = bad_mode(mode)          ? 1
@@ -568,7 +576,7 @@ static void detect_sp_phase(struct bytes *in)
     const float *spectra = some_floats(in, "spectra", len);
     uint8_t *found = a_buffer(in, "found", 1, 1);
     uint8_t *phase = a_buffer(in, "phase", 1, 1);
-    float *share = a_buffer(in, "share", 1, sizeof *share);
+    float *share = a_float_buffer(in, "share", 1, sizeof *share);
     uint32_t *counts = a_buffer(in, "counts", SILLURWY_PHASES, sizeof *counts);
     uint32_t *lead = a_buffer(in, "lead", 1, sizeof *lead);
     lent_ready();
@@ -595,6 +603,17 @@ static void detect_sp_phase(struct bytes *in)
     }
 }
 
+/* True for the points of a coherent segment and for the one that closes it. */
+static bool is_estimated(uint8_t mode, const uint8_t *kinds, size_t point)
+{
+    static const uint8_t segments[] = {11, 9, 7, 5, 3, 1, 0, 2, 4, 6, 8, 10, 12};
+    size_t points = SILLURWY_CARRIERS_PER_SEGMENT(mode) / 3;
+    size_t place = point / points;
+    bool within = place < SILLURWY_SEGMENTS && kinds[segments[place]] == SILLURWY_COHERENT;
+    bool closes = place > 0 && point % points == 0 && kinds[segments[place - 1]] == SILLURWY_COHERENT;
+    return within || closes;
+}
+
 static void estimate_grid(struct bytes *in)
 {
     uint8_t mode = a_mode(in);
@@ -607,7 +626,7 @@ static void estimate_grid(struct bytes *in)
     size_t index = count == 0 ? a_byte(in) : a_bounded(in, count - 1);
     size_t w = a_byte(in) < 128 ? a_byte(in) % 8 : a_bounded(in, SILLURWY_MOST_WINDOW);
     size_t grid_len = a_length(in, SILLURWY_GRID_LENGTH(mode));
-    float *grid = a_buffer(in, "grid", grid_len, sizeof *grid);
+    float *grid = a_float_buffer(in, "grid", grid_len, sizeof *grid);
     lent_ready();
     uint8_t code = sillurwy_estimate_grid(mode, phase, kinds.at, kinds.len, spectra, len, index, w,
                                           grid, grid_len);
@@ -620,12 +639,18 @@ static void estimate_grid(struct bytes *in)
                    : w > SILLURWY_MOST_WINDOW                 ? 10
                    : grid_len != SILLURWY_GRID_LENGTH(mode)   ? 7
                                                               : 0;
-    if (accepted(code, owed) && memchr(kinds.at, SILLURWY_COHERENT, kinds.len) == NULL) {
-        must_keep(grid, 4 * grid_len, "grid");
+    if (!accepted(code, owed)) {
+        return;
+    }
+    for (size_t i = 0; i < grid_len; i += 2) {
+        if (is_estimated(mode, kinds.at, i / 2)) {
+            continue;
+        }
+        must_keep(grid + i, 2 * sizeof *grid, "grid");
     }
 }
 
-/* ---- Floats: they are held to the compiler's own root and conversion. ---- */
+/* ---- Floats: they are compared with the compiler's own root and conversion. ---- */
 
 static void must_be_f64(double given, double owed)
 {
@@ -812,7 +837,7 @@ int main(int words, char **word)
             }
         } else {
             fprintf(stderr, "usage: fuzz [--seed N] [--cases N] [--only NAME] [--from N]"
-                            " [--mistake 1 to 9 [--in BUFFER]]\n");
+                            " [--mistake 1 to 11 [--in BUFFER]]\n");
             return 2;
         }
     }
@@ -834,6 +859,7 @@ int main(int words, char **word)
         fflush(stdout);
         all += count;
     }
+    printf("fuzz: %lu lent NaNs were not to be written and kept their bytes\n", lent_nans_held());
     printf("fuzz: %lu cases, no problem\n", all);
     return 0;
 }

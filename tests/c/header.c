@@ -1,5 +1,5 @@
 /* The header by itself: it is compiled as C and as C++, as strictly as the compiler can, and its
- * constants are held to the numbers of document 01. Nothing of this file is run. */
+ * constants are compared with the numbers of document 01. Nothing of this file is run. */
 #include "sillurwy.h"
 #include "sillurwy.h"
 

@@ -21,10 +21,13 @@ struct slot {
     size_t room;
     uint8_t *copy;
     bool at_end;
+    bool nans;
+    size_t turn; /* of its NaNs */
 };
 
 static struct slot slots[SLOTS];
 static size_t used;
+static unsigned long nans_held;
 
 void lent_start(void)
 {
@@ -72,6 +75,7 @@ void *lent(const char *name, size_t len, size_t size, enum use use, bool at_end)
     slot->name = name;
     slot->use = use;
     slot->at_end = at_end;
+    slot->nans = false;
     slot->bytes = len * size;
     slot->size = size;
     slot->area_bytes = slot->bytes + MARGIN;
@@ -82,6 +86,68 @@ void *lent(const char *name, size_t len, size_t size, enum use use, bool at_end)
         slot->area[i] = (uint8_t)(0xa5 + 37 * i + (i >> 8));
     }
     return slot->at;
+}
+
+/* What entry i of a buffer is lent as. */
+enum sort { NUMBER, NAN_ABOVE = 4, NAN_ABOVE_QUIET, NAN_BELOW, NAN_BELOW_QUIET };
+
+static enum sort sort_of(const struct slot *slot, size_t i)
+{
+    size_t sort = (slot->turn + i) % 8;
+    return slot->nans && sort >= 4 ? (enum sort)sort : NUMBER;
+}
+
+/* The bit by which a NaN is quiet. */
+static uint64_t quiet_bit(const struct slot *slot)
+{
+    return slot->size == 4 ? UINT64_C(1) << 22 : UINT64_C(1) << 51;
+}
+
+/* An entry's bits, on a machine that has the low byte first. */
+static uint64_t bits_at(const struct slot *slot, size_t i)
+{
+    uint64_t bits = 0;
+    memcpy(&bits, slot->at + i * slot->size, slot->size);
+    return bits;
+}
+
+static void put_bits(struct slot *slot, size_t i, uint64_t bits)
+{
+    memcpy(slot->at + i * slot->size, &bits, slot->size);
+}
+
+void lent_nans(size_t turn)
+{
+    struct slot *slot = &slots[used - 1];
+    uint64_t quiet = quiet_bit(slot);
+    uint64_t sign = UINT64_C(1) << (8 * slot->size - 1);
+    /* All bits of the exponent, and the digit behind the quiet bit, so that no NaN is an infinity. */
+    uint64_t nan = slot->size == 4 ? UINT64_C(0x7fa00000) : UINT64_C(0x7ff4000000000000);
+    slot->nans = true;
+    slot->turn = turn % 8;
+    for (size_t i = 0; i < slot->bytes / slot->size; i++) {
+        enum sort sort = sort_of(slot, i);
+        bool is_quiet = sort == NAN_ABOVE_QUIET || sort == NAN_BELOW_QUIET;
+        bool is_below = sort == NAN_BELOW || sort == NAN_BELOW_QUIET;
+        if (sort != NUMBER) {
+            uint64_t digits = bits_at(slot, i) & (quiet / 2 - 1);
+            put_bits(slot, i, digits | nan | (is_quiet ? quiet : 0) | (is_below ? sign : 0));
+        }
+    }
+}
+
+/* Counts the NaNs among the entries of these bytes. */
+static void count_nans(const struct slot *slot, const uint8_t *from, size_t bytes)
+{
+    size_t first = (size_t)(from - slot->at) / slot->size;
+    for (size_t i = first; slot->nans && i < first + bytes / slot->size; i++) {
+        nans_held += sort_of(slot, i) != NUMBER;
+    }
+}
+
+unsigned long lent_nans_held(void)
+{
+    return nans_held;
 }
 
 void lent_ready(void)
@@ -114,6 +180,7 @@ void lent_check(bool refused)
             hold(slot, 0, slot->area_bytes, "what was lent to be read was written:");
         } else if (refused) {
             hold(slot, 0, slot->area_bytes, "a refusal wrote:");
+            count_nans(slot, slot->at, slot->bytes);
         }
     }
 }
@@ -124,6 +191,7 @@ bool lent_kept(const void *from, size_t bytes)
     for (size_t i = 0; i < used; i++) {
         const struct slot *slot = &slots[i];
         if (bytes > 0 && at >= slot->at && at < slot->at + slot->bytes) {
+            count_nans(slot, at, bytes);
             return memcmp(at, slot->copy + (at - slot->area), bytes) == 0;
         }
     }
@@ -143,11 +211,25 @@ static void change_last(struct slot *slot, bool written)
     }
 }
 
+/* Makes the last signalling NaN that was kept a quiet one. */
+static void quiet_last(struct slot *slot)
+{
+    for (size_t i = slot->bytes / slot->size; i > 0; i--) {
+        enum sort sort = sort_of(slot, i - 1);
+        bool is_signalling = sort == NAN_ABOVE || sort == NAN_BELOW;
+        if (is_signalling && lent_kept(slot->at + (i - 1) * slot->size, slot->size)) {
+            put_bits(slot, i - 1, bits_at(slot, i - 1) | quiet_bit(slot));
+            return;
+        }
+    }
+}
+
 void lent_mistake(enum mistake mistake, const char *name, bool refused)
 {
     for (size_t i = 0; i < used; i++) {
         struct slot *slot = &slots[i];
         bool writes = slot->use == TO_WRITE;
+        bool named = writes && strcmp(slot->name, name) == 0;
         if (mistake == WRITE_BEHIND && writes && !slot->at_end) {
             slot->at[slot->bytes] ^= 1;
         } else if (mistake == WRITE_BEFORE && writes && slot->at_end) {
@@ -162,8 +244,11 @@ void lent_mistake(enum mistake mistake, const char *name, bool refused)
         } else if (mistake == READ_BEFORE && !slot->at_end) {
             volatile uint8_t *before = slot->at - 1;
             (void)*before;
-        } else if (mistake >= WRONG_ANSWER && writes && !refused && strcmp(slot->name, name) == 0) {
+        } else if ((mistake == WRONG_ANSWER || mistake == WRITE_KEPT) && named && !refused) {
             change_last(slot, mistake == WRONG_ANSWER);
+        } else if ((mistake == REFUSED_NAN && named && refused) ||
+                   (mistake == KEPT_NAN && named && !refused)) {
+            quiet_last(slot);
         } else {
             continue;
         }

@@ -20,6 +20,10 @@ void lent_start(void);
 /* A buffer of `len` entries of `size` bytes each, filled with a pattern. */
 void *lent(const char *name, size_t len, size_t size, enum use use, bool at_end);
 
+/* The buffer lent last is one of floats, or of doubles: of eight entries side by side four become
+ * NaNs, quiet and signalling, of both signs, each with other digits. `turn` decides which four. */
+void lent_nans(size_t turn);
+
 /* Keeps a copy of every buffer: the call comes next. */
 void lent_ready(void);
 
@@ -29,6 +33,9 @@ void lent_check(bool refused);
 
 /* True if these bytes of a lent buffer are as they were. */
 bool lent_kept(const void *from, size_t bytes);
+
+/* How many of these NaNs were held to their copies, since they were not to be written. */
+unsigned long lent_nans_held(void);
 
 /* The mistakes that a wrong function could make. */
 enum mistake {
@@ -42,10 +49,12 @@ enum mistake {
     WRONG_CODE,      /* or a wrong value of a function of floats */
     WRONG_ANSWER,    /* an entry out of its range, in place of one that was written */
     WRITE_KEPT,      /* an entry that an accepted call leaves as it was */
+    REFUSED_NAN,     /* another NaN in the place of one, and refuse */
+    KEPT_NAN,        /* another NaN in the place of one that an accepted call leaves as it was */
     MISTAKES
 };
 
-/* Makes one with the buffers, so that the checks can be seen to find it; the last two are made in
+/* Makes one with the buffers, so that the checks can be seen to find it; the last four are made in
  * the buffer of this name. Nothing is done where the last call gives no occasion for it. */
 void lent_mistake(enum mistake mistake, const char *name, bool refused);
 

@@ -1,4 +1,4 @@
-/* Calls every function of sillurwy.h from C and holds the answers to the stored ones, which
+/* Calls every function of sillurwy.h from C and compares the answers with the stored ones, which
  * oracle/store wrote (oracle/README.md, "The stored answers", has the form of the files).
  *
  *   replay LAYOUT ACQUIRE GRID FLOATS [NAME]
@@ -447,6 +447,41 @@ static void detect_sp_phase(struct reader *in, const struct call *call)
     count(DETECT_SP_PHASE, good);
 }
 
+/* Calls with no coherent segment, whose answer is that there are no scattered pilots. A refusal is no
+ * such answer: where `found` was 1 it still is, and where it was 0 or anything else too. */
+static void detect_no_sp_phase(void)
+{
+    static const uint8_t kinds[] = {1, 1, 1, 1, 1, 1, 1, 1, 1, 1, 1, 1, 1};
+    static const float few[] = {1, 2, 3};
+    static const uint8_t before[] = {0, 1, 0x5a};
+    for (size_t i = 0; i < sizeof before; i++) {
+        for (uint8_t owed = 0; owed < 6; owed++) {
+            if (owed == 3 || owed == 4) {
+                continue;
+            }
+            uint8_t found = before[i];
+            uint8_t phase = 0x5a;
+            float share;
+            uint32_t counts[SILLURWY_PHASES];
+            uint32_t lead;
+            fill(&share, sizeof share);
+            fill(counts, sizeof counts);
+            fill(&lead, sizeof lead);
+            uint8_t code = sillurwy_detect_sp_phase(
+                owed == SILLURWY_BAD_MODE ? 4 : 1, kinds, owed == SILLURWY_BAD_KINDS ? 12 : 13, few,
+                owed == SILLURWY_BAD_FLOATS ? 3 : 0, &found, &phase, &share, counts, &lead);
+            bool good = code == owed && phase == 0x5a && untouched(&share, sizeof share);
+            if (owed != 0) {
+                good &= found == before[i];
+                good &= untouched(counts, sizeof counts) && untouched(&lead, sizeof lead);
+            } else {
+                good &= found == 0 && lead == 0;
+            }
+            count(DETECT_SP_PHASE, good);
+        }
+    }
+}
+
 static void detect_mode(struct reader *in, const struct call *call)
 {
     double *scratch = room(call->lent, sizeof *scratch);
@@ -628,6 +663,7 @@ int main(int words, char **word)
     struct reader values = opened(word[4]);
     replay_layout(&layout);
     replay_acquire(&acquire);
+    detect_no_sp_phase();
     replay_grid(&grid);
     replay_floats(&values);
     free(layout.bytes);

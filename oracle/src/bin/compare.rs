@@ -1,6 +1,6 @@
-//! Holds the proved port against the Rust: every layout, every bin, every refusal at its boundary,
+//! Compares the proved port with the Rust: every layout, every bin, every refusal at its boundary,
 //! random calls, the functions of floats, acquisition, the grid, and the program `segments`. Of
-//! acquisition it also holds the port against itself, on changed captures. Where a norm is taken it
+//! acquisition it also compares the port with itself, on changed captures. Where a norm is taken it
 //! counts the departures of the untouched Rust.
 
 use oracle::acquire_compare::{self, Plan};
@@ -17,13 +17,13 @@ use oracle::isdb::params::Mode;
 use oracle::rng::Rng;
 use oracle::segment_list::{damaged_line, every_question, random_question};
 use oracle::segments_program;
-use oracle::tally::{Row, Tally, on_all_processors, print_table};
+use oracle::tally::{NansLeft, Row, Tally, on_all_processors, print_table};
 use std::io;
 use std::process::ExitCode;
 use std::time::Instant;
 
 const USAGE: &str = "\
-compare: hold the proved port against the Rust
+compare: the proved port beside the Rust
 
   --quick     fewer random floats and captures; everything else the same
   --seed N    seed of the random calls, the random floats and the damaged lines (default 1)
@@ -432,6 +432,13 @@ fn main() -> ExitCode {
     let differences = print_table(&rows);
     if let Some(Provisos { asked, met }) = provisos {
         println!("\n{met} of {asked} moved captures met the proviso of the shift");
+    }
+    if options.wants("acquisition") || options.wants("grid") {
+        let NansLeft { refused, accepted } = NansLeft::sum(&rows);
+        println!(
+            "\nNaNs that were lent and had to be left, compared by their bytes: {refused} after \
+             refusals, {accepted} after accepted calls"
+        );
     }
     println!(
         "\nseed {}{}, {differences} differences",

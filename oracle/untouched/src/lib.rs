@@ -1,4 +1,4 @@
-//! The untouched Rust: acquisition and grid of isdb-rs on the crate num-complex, held against the oracle.
+//! The untouched Rust: acquisition and grid of isdb-rs on the crate num-complex, compared with the oracle.
 //!
 //! The oracle has the requirement's exact norms in the place of num-complex's, which are `hypot`.
 //! `acquire` and `chanest` are the oracle's own source files, compiled here with the types of
