@@ -22,7 +22,8 @@ use Rattle.ratio.specs.Inner.{Copied, Gathered, Filled}
 pub copy-begin : (xs : List Float) (at : ℕ) (ys : List Float) (first : ℕ) → Copied xs at ys first 0 ys
 copy-begin xs at ys first = record { here = λ i l. absurd (omega arith); before = λ k l. refl }
 
-pub copy-again : (xs : List Float) (at : ℕ) (ys : List Float) (first n : ℕ) (zs : List Float) (v : Pair) → 2 * (first + n) + 1 < length zs → v ≡ pairAt xs (at + n)
+pub copy-again : (xs : List Float) (at : ℕ) (ys : List Float) (first n : ℕ) (zs : List Float) (v : Pair)
+    → 2 * (first + n) + 1 < length zs → v ≡ pairAt xs (at + n)
     → Copied xs at ys first n zs → Copied xs at ys first (n + 1) (withPair zs (first + n) v)
 copy-again xs at ys first n zs v room e h =
     record {
@@ -42,7 +43,8 @@ row-inside len n j h = let a : suc j * len ≤ n * len = mul-le-mul-right len h 
 pub gather-begin : (xs : List Float) (len first : ℕ) (block : List Float) → Gathered xs len first 0 block
 gather-begin xs len first block = record { pairs = λ j i l m. absurd (omega arith) }
 
-pub gather-again : (xs : List Float) (len first n at : ℕ) (old new : List Float) → at ≡ n * len + first → Gathered xs len first n old → Copied xs at old (8 * n) 8 new
+pub gather-again : (xs : List Float) (len first n at : ℕ) (old new : List Float)
+    → at ≡ n * len + first → Gathered xs len first n old → Copied xs at old (8 * n) 8 new
     → Gathered xs len first (n + 1) new
 gather-again xs len first n at old new e h c = record { pairs = λ j i l m. by j (decLt j n) l i m }
   where
@@ -66,7 +68,8 @@ pub eight-more : (xs : List Float) (len n first : ℕ) (block old out new : List
     → new ≡ upTo (λ b. ratioOf (column xs len b n)) (first + 8) ++ drop (first + 8) old
 eight-more xs len n first block old out new h room e w =
     let f : ℕ → Float = λ b. ratioOf (column xs len b n) in
-    let same : upTo (λ i. ratioOf (column block 8 i n)) 8 ≡ upTo (λ i. f (first + i)) 8 = upTo-same _ _ 8 (λ i m. ap ratioOf (gathered-column xs len first n block i m h)) in
+    let same : upTo (λ i. ratioOf (column block 8 i n)) 8 ≡ upTo (λ i. f (first + i)) 8 =
+    upTo-same _ _ 8 (λ i m. ap ratioOf (gathered-column xs len first n block i m h)) in
     w ∙ ap (sets out first) same ∙ fill-part f old out first 8 e room
 
 -- the front as it was filled, before what stands behind it

@@ -156,8 +156,7 @@ module _ (k : ℕ) (K : k ≤ most) where
       let qs = steps (map (amplified k) xs) in
       let few : length ps ≤ 1024 = omega (arith, every-step xs) in
       let each = gained-steps xs g in
-      inr
-      (
+      inr (
         K,
         bin-sum-gain k K (map squareOf ps) (map squareOf qs) (rw length-map few)
             (each-map (BothScaled stepLevel k) (BothScaled termLevel k) squareOf (square-gain k K) ps qs each),

@@ -7,8 +7,10 @@ ghost use lib.ListN.{length};
 ghost use Rattle.params.specs.Params.{modeFrom, totalCarriers};
 ghost use Rattle.lists.specs.Tests.{memb};
 ghost use Rattle.segment_kinds.specs.SegmentKinds.{kindScore, kindOfScore, KindsDetected};
-ghost use Rattle.segment_kinds.specs.Inner.{isTelling, Addable, Added, kept, meanOf, Scorable, Banded, AllDetected, NoKinds};
+ghost use Rattle.segment_kinds.specs.Inner.{isTelling, ratioAt, Addable, Added, kept, meanOf, Scorable, Banded, AllDetected, NoKinds};
+use ofdm::BandPlace;
 use ofdm::Segment;
+use ofdm::SegmentPlace;
 use params::Mode;
 use params::ModeNumber;
 use params::SegmentKind;
@@ -52,11 +54,20 @@ fn is_telling(tmcc: &[u16], ac1: &[u16], p: u16) -> bool
     !is_listed(ac1, p)
 }
 
-// Adds the ratios at those of `places` that are in neither list of coherent places. `ratios` are the
-// segment's own.
-fn add_places(start: Mean, places: &[u16], tmcc: &[u16], ac1: &[u16], ratios: &[f32]) -> Mean
-    requires { ⌜ Addable (start .count) (now places) (length (now ratios)) ⌝ }
-    ensures { λ r. ⌜ Added start (kept (now (tmcc .entry)) (now (ac1 .entry)) (now (places .entry))) (now (ratios .entry)) r ⌝ }
+// Adds the ratios at those of `places`, of the segment at place `at` of the band, that are in neither
+// list of coherent places. `ratios` are those of the band.
+fn add_places(
+    start: Mean,
+    mode: Mode,
+    at: BandPlace,
+    places: &[u16],
+    tmcc: &[u16],
+    ac1: &[u16],
+    ratios: &[f32],
+) -> Mean
+    requires { ⌜ Addable (start .count) mode (at .0) (now places) (length (now ratios)) ⌝ }
+    ensures { λ r. ⌜ Added start (ratioAt mode (at .0) (now (ratios .entry)))
+        (kept (now (tmcc .entry)) (now (ac1 .entry)) (now (places .entry))) r ⌝ }
 {
     let mut sum = start.sum;
     let mut count = start.count;
@@ -67,26 +78,37 @@ fn add_places(start: Mean, places: &[u16], tmcc: &[u16], ac1: &[u16], ratios: &[
         if !is_telling(tmcc, ac1, p) {
             continue;
         }
-        sum = sum + ratios[p as usize];
+        let carrier = ofdm::band_carrier(mode, at, SegmentPlace(p as usize));
+        let k = carrier.0;
+        sum = sum + ratios[k];
         count += 1;
     }
     Mean { sum, count }
 }
 
-// The mean ratio of the telling ones among place 0, AC2 and differential TMCC. `ratios` are the
-// segment's own.
-fn mean_ratio(tmcc: &[u16], ac1: &[u16], ac2: &[u16], differential: &[u16], ratios: &[f32]) -> f32
-    requires { ⌜ Scorable (now ac2) (now differential) (length (now ratios)) ⌝ }
-    ensures { λ r. ⌜ r ≡ meanOf (kept (now (tmcc .entry)) (now (ac1 .entry)) (0 ∷ (now (ac2 .entry) ++ now (differential .entry)))) (now (ratios .entry)) ⌝ }
+// The mean ratio of the telling ones among place 0, AC2 and differential TMCC of the segment at place
+// `at` of the band. `ratios` are those of the band.
+fn mean_ratio(
+    mode: Mode,
+    at: BandPlace,
+    tmcc: &[u16],
+    ac1: &[u16],
+    ac2: &[u16],
+    differential: &[u16],
+    ratios: &[f32],
+) -> f32
+    requires { ⌜ Scorable mode (at .0) (now ac2) (now differential) (length (now ratios)) ⌝ }
+    ensures { λ r. ⌜ r ≡ meanOf (ratioAt mode (at .0) (now (ratios .entry)))
+        (kept (now (tmcc .entry)) (now (ac1 .entry)) (0 ∷ (now (ac2 .entry) ++ now (differential .entry)))) ⌝ }
 {
     let first = [0u16; 1];
     let start = Mean {
         sum: ieee::NEGATIVE_ZERO,
         count: 0,
     };
-    let a = add_places(start, &first, tmcc, ac1, ratios);
-    let b = add_places(a, ac2, tmcc, ac1, ratios);
-    let m = add_places(b, differential, tmcc, ac1, ratios);
+    let a = add_places(start, mode, at, &first, tmcc, ac1, ratios);
+    let b = add_places(a, mode, at, ac2, tmcc, ac1, ratios);
+    let m = add_places(b, mode, at, differential, tmcc, ac1, ratios);
     m.sum / m.count as f32
 }
 
@@ -95,11 +117,7 @@ fn segment_score(mode: Mode, seg: Segment, ratios: &[f32]) -> f32
     requires { ⌜ Banded mode (seg .0) (length (now ratios)) ⌝ }
     ensures { λ r. ⌜ r ≡ kindScore mode (now (ratios .entry)) (seg .0) ⌝ }
 {
-    let c = mode.carriers_per_segment();
-    let place = ofdm::segment_position(seg);
-    let from = place.0 * c;
-    let to = from + c;
-    let own = &ratios[from..to];
+    let at = ofdm::segment_position(seg);
     let tmcc = tables::tmcc_positions(mode, SegmentKind::Coherent, seg.0);
     let ac1 = tables::ac1_positions(mode, SegmentKind::Coherent, seg.0);
     let ac2 = tables::ac2_positions(mode, SegmentKind::Differential, seg.0);
@@ -113,11 +131,13 @@ fn segment_score(mode: Mode, seg: Segment, ratios: &[f32]) -> f32
     let differential_places = differential.places;
     let differential_count = differential.count;
     mean_ratio(
+        mode,
+        at,
         &tmcc_places[..tmcc_count],
         &ac1_places[..ac1_count],
         &ac2_places[..ac2_count],
         &differential_places[..differential_count],
-        own,
+        ratios,
     )
 }
 

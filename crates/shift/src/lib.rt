@@ -2,12 +2,13 @@
 // pattern of AC1 carriers and the edge is laid over the ratios of all bins at every shift from -bound
 // to bound, and the greatest sum wins.
 ghost use mathlib.Core.Path.{_≡_};
-ghost use Prim.Native.Nat.{_≤_};
+ghost use Prim.Native.Nat.{_+_, _%_, _≤_, _<_};
 ghost use lib.ListN.{length};
 ghost use Rattle.params.specs.Params.{modeFrom};
 ghost use Rattle.shift.specs.Shift.{pattern, Shifted};
 ghost use Rattle.shift.specs.Inner.{segmentBins, Room, Put, sumUp, Movable, Bounded, BestPlace};
 use ofdm::BandCarrier;
+use ofdm::FftBin;
 use ofdm::Segment;
 use ofdm::SegmentPlace;
 use params::Mode;
@@ -74,17 +75,28 @@ fn put_pattern(mode: Mode, out: &mut [u32]) -> usize
     at + 1
 }
 
+// A bin moved up by `up`, modulo n.
+fn moved_up(bin: FftBin, up: usize, n: usize) -> FftBin
+    requires { ⌜ Movable n up × (bin .0 < 4294967296) ⌝ }
+    ensures { λ r. ⌜ r .0 ≡ (bin .0 + up) % n ⌝ }
+{
+    let turn = n;
+    FftBin((bin.0 + up) % turn)
+}
+
 // The sum of the ratios at the pattern's bins, each moved up by `up` modulo the ratios' length.
 fn pattern_sum(bins: &[u32], ratios: &[f32], up: usize) -> f32
     requires { ⌜ Movable (length (now ratios)) up ⌝ }
     ensures { λ r. ⌜ r ≡ sumUp (now (bins .entry)) (now (ratios .entry)) up ⌝ }
 {
-    let len = ratios.len();
+    let n = ratios.len();
     let mut sum = ieee::NEGATIVE_ZERO;
     let mut i: usize = 0;
     while i < bins.len() {
-        let bin = (bins[i] as usize + up) % len;
-        sum = sum + ratios[bin];
+        let bin = bins[i] as usize;
+        let moved = moved_up(FftBin(bin), up, n);
+        let at = moved.0;
+        sum = sum + ratios[at];
         i += 1;
     }
     sum

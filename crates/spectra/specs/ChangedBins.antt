@@ -37,9 +37,12 @@ unfolding column
 changed-column c len xs ys b b' j zero h = refl
 changed-column c len xs ys b b' j (suc n) h =
     let z : pairAt ys (j * len + b') ≡ changedPair c j (pairAt xs (j * len + b)) = rw (add-zero j) at (h 0 (zero-lt-suc n)) in
-    let r : (i : ℕ) → i < n → pairAt ys ((suc j + i) * len + b') ≡ changedPair c (suc j + i) (pairAt xs ((suc j + i) * len + b)) = λ i l. rw (further j i) at (h (suc i) (omega arith)) in
+    let r : (i : ℕ) → i < n → pairAt ys ((suc j + i) * len + b') ≡ changedPair c (suc j + i) (pairAt xs ((suc j + i) * len + b)) =
+    λ i l. rw (further j i) at (h (suc i) (omega arith)) in
     let s : column ys len (j * len + b' + len) n ≡ changedFrom c (suc j) (column xs len (j * len + b + len) n) =
-    ap (λ (a : ℕ). column ys len a n) (next len j b') ∙ changed-column c len xs ys b b' (suc j) n r ∙ ap (λ (a : ℕ). changedFrom c (suc j) (column xs len a n)) (sym (next len j b)) in
+    ap (λ (a : ℕ). column ys len a n) (next len j b')
+    ∙ changed-column c len xs ys b b' (suc j) n r
+    ∙ ap (λ (a : ℕ). changedFrom c (suc j) (column xs len a n)) (sym (next len j b)) in
     λ k. z k ∷ s k
 
 pub changed-bin : (c : Change) (len : ℕ) (move : ℕ → ℕ) (xs ys : List Float) (b : ℕ) → b < len → Changed c len move xs ys
@@ -53,12 +56,14 @@ changed-bin c len move xs ys b B h =
     ∙ ap (λ (a : ℕ). changedFrom c 0 (column xs len a n)) (first b)
 
 -- its pairs are whole numbers where all are
-whole-column : (len : ℕ) (xs : List Float) (b j n : ℕ) → ((i : ℕ) → i < n → WholePair (pairAt xs ((j + i) * len + b))) → WholePairs (column xs len (j * len + b) n)
+whole-column : (len : ℕ) (xs : List Float) (b j n : ℕ) → ((i : ℕ) → i < n → WholePair (pairAt xs ((j + i) * len + b)))
+    → WholePairs (column xs len (j * len + b) n)
 unfolding column
 whole-column len xs b j zero h = tt
 whole-column len xs b j (suc n) h = (
   rw (add-zero j) at (h 0 (zero-lt-suc n)),
-  subst (λ (a : ℕ). WholePairs (column xs len a n)) (sym (next len j b)) (whole-column len xs b (suc j) n (λ i l. rw (further j i) at (h (suc i) (omega arith)))),
+  subst (λ (a : ℕ). WholePairs (column xs len a n)) (sym (next len j b))
+      (whole-column len xs b (suc j) n (λ i l. rw (further j i) at (h (suc i) (omega arith)))),
 )
 
 pub whole-bin : (len : ℕ) (xs : List Float) (b : ℕ) → b < len → Wholes len xs → WholePairs (binPairs len xs b)

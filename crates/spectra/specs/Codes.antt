@@ -11,7 +11,9 @@ use Rattle.lists.specs.Tests.{both-left, both-right}
 use Rattle.spectra.specs.Spectra.{spectraIn, areSpectra, spectraCode}
 
 pub later-counts : (len n : ℕ) → InFront (spectraCode len n)
-later-counts len n = both-in-front (unless (areSpectra len n) 5) (unless (ltb 0 n) 6) (one-in-front (areSpectra len n) 5 (lit< tt)) (one-in-front (ltb 0 n) 6 (lit< tt))
+later-counts len n =
+    let whole = areSpectra len n in
+    both-in-front (unless whole 5) (unless (ltb 0 n) 6) (one-in-front whole 5 (lit< tt)) (one-in-front (ltb 0 n) 6 (lit< tt))
 
 pub record Accepted (len n later : ℕ) : Type 0 where
   pub whole : n % (2 * len) ≡ 0

@@ -59,7 +59,8 @@ pair-with-same xs k v h =
     )
 
 pub pair-with-other : (xs : List Float) (k j : ℕ) (v : Pair) → j ≢ k → pairAt (withPair xs k v) j ≡ pairAt xs j
-pair-with-other xs k j v n = λ t. pair (other (2 * j) (λ e. n (omega arith)) (λ e. omega arith) t) (other (2 * j + 1) (λ e. omega arith) (λ e. n (omega arith)) t)
+pair-with-other xs k j v n =
+    λ t. pair (other (2 * j) (λ e. n (omega arith)) (λ e. omega arith) t) (other (2 * j + 1) (λ e. omega arith) (λ e. n (omega arith)) t)
   where
     other : (i : ℕ) → i ≢ 2 * k → i ≢ 2 * k + 1 → getD (withPair xs k v) i nan ≡ getD xs i nan
     other i a b = getD-set-other (set xs (2 * k) (v .re)) (2 * k + 1) i (v .im) nan b ∙ getD-set-other xs (2 * k) i (v .re) nan a

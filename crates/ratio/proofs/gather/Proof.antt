@@ -13,7 +13,8 @@ use Rattle.ratio.proofs.gather.Statement.{statement}
 use Rattle.ratio.proofs.gather.Tie as tie
 
 abbrev Inv-loop : tie.InvT-loop
-Inv-loop spectra len count first block₀ at₀ j₀ block at j = (j ≤ count) × (at ≡ j * len + first) × (length block ≡ length block₀) × Gathered spectra len first j block
+Inv-loop spectra len count first block₀ at₀ j₀ block at j =
+    (j ≤ count) × (at ≡ j * len + first) × (length block ≡ length block₀) × Gathered spectra len first j block
 
 abbrev μ-loop : tie.MeasureT-loop
 μ-loop spectra len count first block₀ at₀ j₀ block at j = count - j
@@ -32,9 +33,10 @@ copy-eight-requires c κs =
 
 add-at : tie.Need-add-at Inv-loop μ-loop
 add-at c =
-    let l = c .before .before .before .before .before in
+    let t = c .before .before .before .before in
+    let l = t .before in
     let s = l .before .before .before in
-    omega (arith, row-inside (s .args .len) (s .args .count) (l .loop .j) (c .before .before .before .before .loop-test .taken), s .pre .bins, s .pre .spectra, s .good)
+    omega (arith, row-inside (s .args .len) (s .args .count) (l .loop .j) (t .loop-test .taken), s .pre .bins, s .pre .spectra, s .good)
 
 add-j : tie.Need-add-j Inv-loop μ-loop
 add-j c = search needs

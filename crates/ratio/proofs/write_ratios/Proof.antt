@@ -76,7 +76,8 @@ returns : tie.Need-returns Inv-loop μ-loop
 unfolding binRatios
 returns c =
     let l = c .before in
-    fill-done _ _ _ (l .before .before .before .before .before .before .before .args .len) (l .loop .b) (l .loop .inv .3) (omega (arith, l .loop .inv .1)) (omega arith)
+    let s = l .before .before .before .before .before .before .before in
+    fill-done _ _ _ (s .args .len) (l .loop .b) (l .loop .inv .3) (omega (arith, l .loop .inv .1)) (omega arith)
 
 pub write-ratios-spec : {M : Type 1} → statement M
 write-ratios-spec =

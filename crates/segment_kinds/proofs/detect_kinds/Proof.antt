@@ -37,15 +37,15 @@ returns-2 : tie.Need-returns-2
 returns-2 c =
     let r = c .before .before .before .before in
     let t = r .before .before in
-    let m = t .before .before .m .given in
-    refused _ _ (sym (t .before .before .before .before .from-number .ensures) ∙ m .1) _ _ _ _ _ (t .total-carriers .ensures) (r .continual-metric .ensures) _ (c .before .if1 .taken) (c .refused2 .ensures)
+    let known = sym (t .before .before .before .before .from-number .ensures) ∙ t .before .before .m .given .1 in
+    refused _ _ known _ _ _ _ _ (t .total-carriers .ensures) (r .continual-metric .ensures) _ (c .before .if1 .taken) (c .refused2 .ensures)
 
 detected-requires : tie.Need-detected-requires
 detected-requires c κs =
     let r = c .before .before .before .before in
     let t = r .before .before in
-    let m = t .before .before .m .given in
-    banded _ _ (sym (t .before .before .before .before .from-number .ensures) ∙ m .1) _ _ _ _ _ (t .total-carriers .ensures) (r .continual-metric .ensures) (c .before .if1 .left)
+    let known = sym (t .before .before .before .before .from-number .ensures) ∙ t .before .before .m .given .1 in
+    banded _ _ known _ _ _ _ _ (t .total-carriers .ensures) (r .continual-metric .ensures) (c .before .if1 .left)
 
 same-length-2 : tie.Need-same-length-2
 same-length-2 c = search needs
@@ -54,8 +54,8 @@ returns-3 : tie.Need-returns-3
 returns-3 c =
     let r = c .before .before .before .before .before in
     let t = r .before .before in
-    let m = t .before .before .m .given in
-    answered _ _ (sym (t .before .before .before .before .from-number .ensures) ∙ m .1) _ _ _ _ _ (t .total-carriers .ensures) (r .continual-metric .ensures) _ (c .before .before .if1 .left) (c .detected .ensures)
+    let known = sym (t .before .before .before .before .from-number .ensures) ∙ t .before .before .m .given .1 in
+    answered _ _ known _ _ _ _ _ (t .total-carriers .ensures) (r .continual-metric .ensures) _ (c .before .before .if1 .left) (c .detected .ensures)
 
 pub detect-kinds-spec : {M : Type 1} → statement M
 detect-kinds-spec =

@@ -10,27 +10,42 @@ slice-aggregate-add-places : tie.Need-slice-aggregate-add-places
 slice-aggregate-add-places c = search needs
 
 add-places-requires : tie.Need-add-places-requires
-add-places-requires c κs = first-addable _ (c .before .before .before .before .before .before .pre .some)
+add-places-requires c κs = first-addable _ _ _ (c .before .before .before .before .before .before .pre .here)
 
 add-places-requires-2 : tie.Need-add-places-requires-2
 add-places-requires-2 c κs =
     let s = c .before .before .before .before .before .before .before in
-    ac2-addable (s .args .tmcc .now) (s .args .ac1 .now) (s .args .ac2 .now) (s .args .differential .now) (s .args .ratios .now) (s .pre) _ refl _ (c .add-places .ensures)
+    let x = s .args in
+    ac2-addable (x .mode) (x .at .0) (x .tmcc .now) (x .ac1 .now) (x .ac2 .now) (x .differential .now) (x .ratios .now) (s .pre) _ refl
+    _ (c .add-places .ensures)
 
 add-places-requires-3 : tie.Need-add-places-requires-3
 add-places-requires-3 c κs =
-    let s = c .before .before .before .before .before .before .before .before in
-    tmcc-addable (s .args .tmcc .now) (s .args .ac1 .now) (s .args .ac2 .now) (s .args .differential .now) (s .args .ratios .now) (s .pre) _ refl _ (c .before .add-places .ensures) _ (c .add-places2 .ensures)
+    let a = c .before in
+    let s = a .before .before .before .before .before .before .before in
+    let x = s .args in
+    tmcc-addable (x .mode) (x .at .0) (x .tmcc .now) (x .ac1 .now) (x .ac2 .now) (x .differential .now) (x .ratios .now) (s .pre) _ refl
+    _ (a .add-places .ensures) _ (c .add-places2 .ensures)
 
 int-to-float-result : tie.Need-int-to-float-result
 int-to-float-result c =
-    let s = c .before .before .before .before .before .before .before .before .before .before in
-    whole-count (s .args .tmcc .now) (s .args .ac1 .now) (s .args .ac2 .now) (s .args .differential .now) (s .args .ratios .now) (s .pre) _ refl _ (c .before .before .before .add-places .ensures) _ (c .before .before .add-places2 .ensures) _ (c .before .add-places3 .ensures)
+    let m = c .before in
+    let b = m .before in
+    let a = b .before in
+    let s = a .before .before .before .before .before .before .before in
+    let x = s .args in
+    whole-count (x .mode) (x .at .0) (x .tmcc .now) (x .ac1 .now) (x .ac2 .now) (x .differential .now) (x .ratios .now) (s .pre) _ refl
+    _ (a .add-places .ensures) _ (b .add-places2 .ensures) _ (m .add-places3 .ensures)
 
 returns : tie.Need-returns
 returns c =
-    let s = c .before .before .before .before .before .before .before .before .before .before .before in
-    mean (s .args .tmcc .now) (s .args .ac1 .now) (s .args .ac2 .now) (s .args .differential .now) (s .args .ratios .now) (s .pre) _ refl _ (c .before .before .before .before .add-places .ensures) _ (c .before .before .before .add-places2 .ensures) _ (c .before .before .add-places3 .ensures) refl
+    let m = c .before .before in
+    let b = m .before in
+    let a = b .before in
+    let s = a .before .before .before .before .before .before .before in
+    let x = s .args in
+    mean (x .mode) (x .at .0) (x .tmcc .now) (x .ac1 .now) (x .ac2 .now) (x .differential .now) (x .ratios .now) (s .pre) _ refl
+    _ (a .add-places .ensures) _ (b .add-places2 .ensures) _ (m .add-places3 .ensures) refl
 
 pub mean-ratio-spec : {M : Type 1} → statement M
 mean-ratio-spec =

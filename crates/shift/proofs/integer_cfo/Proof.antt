@@ -71,7 +71,8 @@ cast-shift : tie.Need-cast-shift
 cast-shift c =
     let k = c .before .before .before .before .before .before .before .before .before .before in
     let f = k .before .before .before .before .before in
-    let small = shift-small (f .before .before .m .given .0 .0) _ _ _ (f .fft-size .ensures) (k .before .before .if2 .left) (c .before .search .ensures .inside) in
+    let m = f .before .before .m .given .0 .0 in
+    let small = shift-small m _ _ _ (f .fft-size .ensures) (k .before .before .if2 .left) (c .before .search .ensures .inside) in
     search needs
 
 cast-shift-2 : tie.Need-cast-shift-2
@@ -81,7 +82,8 @@ sub-shift : tie.Need-sub-shift
 sub-shift c =
     let k = c .before .before .before .before .before .before .before .before .before .before in
     let f = k .before .before .before .before .before in
-    difference-fits _ _ (shift-small (f .before .before .m .given .0 .0) _ _ _ (f .fft-size .ensures) (k .before .before .if2 .left) (c .before .search .ensures .inside))
+    let m = f .before .before .m .given .0 .0 in
+    difference-fits _ _ (shift-small m _ _ _ (f .fft-size .ensures) (k .before .before .if2 .left) (c .before .search .ensures .inside))
 
 int-to-float-score : tie.Need-int-to-float-score
 int-to-float-score c =

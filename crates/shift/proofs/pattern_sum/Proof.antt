@@ -31,22 +31,23 @@ shared-slice-read-bin : tie.Need-shared-slice-read-bin Inv-loop μ-loop
 shared-slice-read-bin c = omega arith
 
 cast-bin : tie.Need-cast-bin Inv-loop μ-loop
-cast-bin c = omega (arith, c .shared-slice-known .given (c .before .before .loop .i))
+cast-bin c = omega (arith, c .shared-slice-known3 .given (c .before .before .loop .i))
 
-add-bin : tie.Need-add-bin Inv-loop μ-loop
-add-bin c = omega (arith, c .shared-slice-known .given (c .before .before .loop .i))
-
-rem-bin : tie.Need-rem-bin Inv-loop μ-loop
-rem-bin c = omega arith
+moved-up-requires : tie.Need-moved-up-requires Inv-loop μ-loop
+moved-up-requires c κs =
+    let l = c .before .before in
+    (l .before .before .before .pre, omega (arith, c .shared-slice-known3 .given (l .loop .i)))
 
 mul-sum : tie.Need-mul-sum Inv-loop μ-loop
 mul-sum c =
-    let l = c .before .before in
-    let s = l .before in
-    omega (arith, mod-lt (getD (s .args .bins .now) (l .loop .i) 0 + s .args .up) (s .pre .some))
+    let l = c .before .before .before in
+    let s = l .before .before .before in
+    omega (arith, c .moved-up .ensures, mod-lt (getD (s .args .bins .now) (l .loop .i) 0 + s .args .up) (s .pre .some))
 
 shared-slice-read-sum : tie.Need-shared-slice-read-sum Inv-loop μ-loop
-shared-slice-read-sum c = mod-lt _ (c .before .before .before .before .pre .some)
+shared-slice-read-sum c =
+    let s = c .before .before .before .before .before .before .before in
+    rw (c .before .moved-up .ensures) (mod-lt _ (s .pre .some))
 
 add-i : tie.Need-add-i Inv-loop μ-loop
 add-i c = omega arith
@@ -56,13 +57,16 @@ loop-less c = omega arith
 
 loop-again : tie.Need-loop-again Inv-loop μ-loop
 loop-again c =
-    let l = c .before .before .before in
-    (omega arith, add-again _ (l .before .args .bins .now) _ _ (l .loop .i) (l .loop .inv .1) (c .before .before .loop-test .taken))
+    let m = c .before in
+    let t = m .before .before in
+    let l = t .before in
+    let s = l .before .before .before in
+    (omega arith, rw (m .moved-up .ensures) (add-again _ (s .args .bins .now) _ _ (l .loop .i) (l .loop .inv .1) (t .loop-test .taken)))
 
 returns : tie.Need-returns Inv-loop μ-loop
 returns c =
     let l = c .before in
-    add-done _ (l .before .args .bins .now) _ _ (l .loop .i) (l .loop .inv .1) (c .loop-test .left)
+    add-done _ (l .before .before .before .args .bins .now) _ _ (l .loop .i) (l .loop .inv .1) (c .loop-test .left)
 
 pub pattern-sum-spec : {M : Type 1} → statement M
 pattern-sum-spec =
@@ -74,8 +78,7 @@ pattern-sum-spec =
     mul-bin
     shared-slice-read-bin
     cast-bin
-    add-bin
-    rem-bin
+    moved-up-requires
     mul-sum
     shared-slice-read-sum
     add-i

@@ -67,7 +67,8 @@ loop-again : tie.Need-loop-again Inv-loop μ-loop
 loop-again c =
     let t = c .before .before .before in
     let l = t .before in
-    let stored = bin-stored _ _ _ _ (l .loop .inv .0) _ (t .loop-test .taken) _ _ (c .before .before .band-carrier .ensures) (c .before .carrier-bin .ensures) in
+    let bin = c .before in
+    let stored = bin-stored _ _ _ _ (l .loop .inv .0) _ (t .loop-test .taken) _ _ (bin .before .band-carrier .ensures) (bin .carrier-bin .ensures) in
     (l .loop .inv .0, store-again _ _ _ _ _ _ _ (omega arith) stored (l .loop .inv .1))
 
 add-result : tie.Need-add-result Inv-loop μ-loop

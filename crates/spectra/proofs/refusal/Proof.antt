@@ -49,7 +49,9 @@ returns-5 c = rw (eq-eqb _ _ (c .before .if4 .left), lt-leb _ _ (c .if5 .taken))
 
 returns-6 : tie.Need-returns-6
 returns-6 c =
-    rw (eq-eqb _ _ (c .before .if4 .left), le-leb _ _ (c .if5 .left), lt-ltb 0 (c .before .before .before .before .before .args .n) (omega (arith, c .before .before .before .before .if1 .left))) refl
+    let first = c .before .before .before .before in
+    let some = lt-ltb 0 (first .before .args .n) (omega (arith, first .if1 .left)) in
+    rw (eq-eqb _ _ (c .before .if4 .left), le-leb _ _ (c .if5 .left), some) refl
 
 pub refusal-spec : {M : Type 1} → statement M
 refusal-spec =

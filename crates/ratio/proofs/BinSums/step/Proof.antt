@@ -28,7 +28,9 @@ returns c =
     let sum = c .before .before in
     let first = sum .before .before .before in
     let s = first .before .before in
-    let p : of32 (first .mul .result) ≡ product binary32 (of32 (s .args .x)) (conjugate (of32 (s .args .y))) = first .mul .ensures ∙ ap (product binary32 (of32 (s .args .x))) (first .before .conj .ensures) in
+    let x = of32 (s .args .x) in
+    let p : of32 (first .mul .result) ≡ product binary32 x (conjugate (of32 (s .args .y))) =
+    first .mul .ensures ∙ ap (product binary32 x) (first .before .conj .ensures) in
     record {
       num = sum .add .ensures ∙ ap (plus binary32 (of32 (s .args .self .num))) (sum .before .mul2 .ensures ∙ ap squareOf p);
       den = ap (add binary32 (s .args .self .den)) (c .before .norm-sqr .ensures ∙ ap sizeOf p);
