@@ -45,7 +45,7 @@ returns-2 : tie.Need-returns-2 Inv-loop μ-loop
 returns-2 c = needs-guard _ _ _ (modes-known (c .before .before)) (sym (c .before .are-codes2 .ensures) ∙ not-true _ (c .if2 .taken))
 
 returns-3 : tie.Need-returns-3 Inv-loop μ-loop
-returns-3 c = needs-fewer _ _ _ (modes-known (c .before .before .before)) (guards-known (c .before)) (c .if3 .taken)
+returns-3 c = needs-fewer _ _ _ (modes-known (c .before .before .before)) (guards-known (c .before)) (omega arith)
 
 loop-holds : tie.Need-loop-holds Inv-loop μ-loop
 unfolding greatest

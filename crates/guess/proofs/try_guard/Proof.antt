@@ -53,7 +53,7 @@ loop-holds c = (omega arith, λ xs h l. none _ _)
 window-at-requires : tie.Need-window-at-requires Inv-loop μ-loop
 window-at-requires c κs =
     let s = c .before .before .before .before .before in
-    record { offset = c .loop-test .taken; guard = omega arith; room = s .pre .room }
+    record { offset = omega arith; guard = omega arith; room = s .pre .room }
 
 offer-requires : tie.Need-offer-requires Inv-loop μ-loop
 offer-requires c κs = search needs
