@@ -25,11 +25,12 @@ use Rattle.pilot_phase.specs.declared.PilotPhase.the-variants.{NoScatter
 use Rattle.pilot_phase.specs.declared.PhaseAnswer.{PhaseAnswer}
 use Rattle.pilot_phase.specs.declared.PhaseAnswer.the-variants.{Detected, Refused}
 use Rattle.pilot_phase.specs.declared.PilotAnswer.{PilotAnswer}
-use Rattle.pilot_phase.specs.PilotPhase.{pilots, votes, countOf, countsOf, wonBy, nextTo, shareOf, leadOf}
+use Rattle.pilot_phase.specs.Ballots.{pilots, ballots}
+use Rattle.pilot_phase.specs.PilotPhase.{votes, countOf, countsOf, wonBy, nextTo, shareOf, phaseOf, leadOf}
 use Rattle.pilot_phase.specs.PilotPhase.{phaseCode, detected, phaseAnswer, noCounts, countsAnswer, phaseNumber, PhaseDetected}
 use Rattle.pilot_phase.specs.Inner.{Votable, Won, somePilots, Nothing}
-use Rattle.pilot_phase.specs.Facts.{phase-number, next-below}
-use Rattle.pilot_phase.proofs.Counting.{counts-at, count-few, votes-length}
+use Rattle.pilot_phase.specs.Facts.{phase-number, ballots-length, counts-at, next-below}
+use Rattle.pilot_phase.proofs.Counting.{votes-few}
 
 no-lead : leadOf noCounts ≡ 0
 unfolding leadOf wonBy nextTo
@@ -41,10 +42,12 @@ module _ (m : Mode) (xs : List Float) {k : ℕ} (sizes : k ≡ totalCarriers m) 
   votable w s = record { whole = rw sizes at w; few = rw sizes at f; signed = s }
 
   -- so few votes are a whole f32
-  pub whole-votes : (kinds : List ℕ) {counts : List ℕ} {won : ℕ} → counts ≡ countsOf (votes m kinds xs) → Won counts won → T (inFloat binary32 (pos (getD counts won 0)))
+  pub whole-votes : (kinds : List ℕ) {counts : List ℕ} {won : ℕ} → counts ≡ countsOf (votes (ballots m kinds xs)) → Won counts won
+      → T (inFloat binary32 (pos (getD counts won 0)))
   whole-votes kinds {counts} {won} c v =
-      let n : getD counts won 0 ≡ countOf (votes m kinds xs) won = rw c (counts-at (votes m kinds xs) won (v .phase)) in
-      held-exactly (pos (getD counts won 0)) (omega (arith, n, count-few (votes m kinds xs) won, votes-length m kinds xs, rw sizes at f))
+      let vs = votes (ballots m kinds xs) in
+      let n : getD counts won 0 ≡ countOf vs won = rw c (counts-at vs won (v .phase)) in
+      held-exactly (pos (getD counts won 0)) (omega (arith, n, votes-few m kinds xs won, rw sizes at f))
 
 -- and so few spectra
 pub whole-total : {n all : ℕ} → n ≤ 1024 → all ≡ cond (eqb n 0) 1 n → T (inFloat binary32 (pos all))
@@ -117,7 +120,7 @@ module _ {number : ModeNumber} {kinds : List ℕ} (xs : List Float) {code : ℕ}
             let none : eqb (length (pilots m kinds 0)) 0 ≡ true = not-false _ (rw (a .same z) at p) in
             rw (a .known z) (nothing-detected (Known m) kinds xs (rw (accepted, none)) (rw (accepted, none)) n)
 
-        pub answered : {counts : List ℕ} {won all next : ℕ} → counts ≡ countsOf (votes m read xs) → Won counts won
+        pub answered : {counts : List ℕ} {won all next : ℕ} → counts ≡ countsOf (votes (ballots m read xs)) → Won counts won
             → all ≡ cond (eqb (length xs / (2 * k)) 0) 1 (length xs / (2 * k)) → next ≡ nextTo counts won → somePilots m read ≡ true
             → PhaseDetected number kinds xs
             (record {
@@ -125,10 +128,11 @@ module _ {number : ModeNumber} {kinds : List ℕ} (xs : List Float) {code : ℕ}
               counts = counts;
               lead = getD counts won 0 - next;
             })
-        unfolding countsAnswer phaseAnswer detected shareOf leadOf
+        unfolding countsAnswer phaseAnswer detected phaseOf shareOf leadOf
         answered {counts} {won} {all} c v b e p =
             let some : eqb (length (pilots m kinds 0)) 0 ≡ false = not-true _ (rw (a .same z) at p) in
-            let d : counts ≡ countsOf (votes m kinds xs) = rw (a .same z) at c in
-            let t : all ≡ cond (eqb (spectraIn (totalCarriers m) (length xs)) 0) 1 (spectraIn (totalCarriers m) (length xs)) = rw sizes at b in
+            let d : counts ≡ countsOf (votes (ballots m kinds xs)) = rw (a .same z) at c in
+            let n = length (ballots m kinds xs) in
+            let t : all ≡ cond (eqb n 0) 1 n = rw (ballots-length m kinds xs) (rw sizes at b) in
             rw (a .known z)
             (made (Known m) kinds xs (rw (accepted, some, ← d, t, v .won)) (rw (accepted, some) d) (rw (accepted, some, ← d, e, v .won)))

@@ -6,7 +6,7 @@ use mathlib.Core.Path.{_≡_, refl}
 use native.Mathlib.Numerals.{add-one}
 use native.Mathlib.Omega.{arith}
 use lib.Ieee.{Float, lt}
-use Rattle.pilot_phase.specs.PilotPhase.{Choice, chooseFrom}
+use Rattle.pilot_phase.specs.Ballots.{Choice, chooseFrom}
 
 abbrev soFar : ℕ → Float → Choice
 soFar best metric = record { phase = best; metric = metric }
@@ -16,13 +16,14 @@ pub record Ahead (f : ℕ → Float) (all best : ℕ) (metric : Float) (p : ℕ)
   pub passed : p ≤ 4
   pub same : chooseFrom f (soFar best metric) p (4 - p) .phase ≡ all
 
-one : (f : ℕ → Float) (best : ℕ) (metric : Float) (p n : ℕ) → chooseFrom f (soFar best metric) p (suc n) ≡ chooseFrom f (cond (lt metric (f p)) (soFar p (f p)) (soFar best metric)) (suc p) n
+phase-more : (f : ℕ → Float) (best : ℕ) (metric : Float) (p n : ℕ)
+    → chooseFrom f (soFar best metric) p (suc n) ≡ chooseFrom f (cond (lt metric (f p)) (soFar p (f p)) (soFar best metric)) (suc p) n
 unfolding chooseFrom
-one f best metric p n = refl
+phase-more f best metric p n = refl
 
 module _ {f : ℕ → Float} {all best : ℕ} {metric : Float} {p : ℕ} (a : Ahead f all best metric p) where
   next : p < 4 → chooseFrom f (cond (lt metric (f p)) (soFar p (f p)) (soFar best metric)) (p + 1) (4 - (p + 1)) .phase ≡ all
-  next h = let z : 4 - p ≡ suc (4 - suc p) = omega arith in rw add-one (rw (z, one f best metric p (4 - suc p)) at (a .same))
+  next h = let z : 4 - p ≡ suc (4 - suc p) = omega arith in rw add-one (rw (z, phase-more f best metric p (4 - suc p)) at (a .same))
 
   pub take : {m : Float} → p < 4 → m ≡ f p → lt metric m ≡ true → Ahead f all p m (p + 1)
   take h e t = let u : lt metric (f p) ≡ true = rw e at t in record { passed = omega arith; same = rw e (rw u at (next h)) }

@@ -14,21 +14,18 @@ use lib.ListN.{length, getD, take, drop, set, length-set, length-drop}
 use lib.Seq.{getD-set-same, getD-set-other, ext-getD, length-take-le, getD-take, getD-drop}
 use lib.Ieee.{Float, nan}
 use Rattle.lists.specs.Lists.{upTo}
-use Rattle.lists.specs.Select.{length-upTo, getD-upTo}
+use Rattle.lists.specs.Select.{length-upTo}
 use Rattle.params.specs.declared.Mode.{Mode}
 use Rattle.params.specs.Params.{totalCarriers}
 use Rattle.params.specs.Laws.{sized}
 use Rattle.spectra.specs.Spectra.{pairAt, spectraIn}
-use Rattle.pilot_phase.specs.PilotPhase.{choiceOf, voteOf, spectrumAt, votes, countOf, countsOf}
+use Rattle.pilot_phase.specs.Ballots.{choiceOf, Ballot, ballotOf, spectrumAt, ballotAt, ballots}
+use Rattle.pilot_phase.specs.PilotPhase.{voteOf, votesFrom, votes, countOf, countsOf}
+use Rattle.pilot_phase.specs.Facts.{votes-length, counts-length, counts-at, count-append, votes-append}
+use Rattle.pilot_phase.specs.Changed.{ballot-alike}
 use Rattle.pilot_phase.specs.Inner.{Spectrum, Votable}
-use Rattle.pilot_phase.proofs.Alike.{choice-alike}
 
 -- ---- a vote more
-count-more : (vs : List ℕ) (x v : ℕ) → countOf (vs ++ (x ∷ [])) v ≡ countOf vs v + cond (eqb x v) 1 0
-unfolding countOf
-count-more [] x v = omega arith
-count-more (z ∷ vs) x v = omega (arith, count-more vs x v)
-
 pub count-few : (vs : List ℕ) (v : ℕ) → countOf vs v ≤ length vs
 unfolding countOf
 count-few [] v = omega arith
@@ -38,50 +35,65 @@ count-few (x ∷ vs) v = by (eqb x v) (count-few vs v)
     by true h = omega arith
     by false h = omega arith
 
-pub counts-length : (vs : List ℕ) → length (countsOf vs) ≡ 4
-unfolding countsOf
-counts-length vs = length-upTo (countOf vs) 4
+module _ (vs : List ℕ) (x : ℕ) (h : x < 4) where
+  abbrev counts-before : List ℕ
+  counts-before = countsOf vs
 
-pub counts-at : (vs : List ℕ) (v : ℕ) → v < 4 → getD (countsOf vs) v 0 ≡ countOf vs v
-unfolding countsOf
-counts-at vs v h = getD-upTo (countOf vs) 4 v 0 h
+  abbrev counts-after : List ℕ
+  counts-after = countsOf (vs ++ (x ∷ []))
 
-counts-more : (vs : List ℕ) (x : ℕ) → x < 4 → set (countsOf vs) x (getD (countsOf vs) x 0 + 1) ≡ countsOf (vs ++ (x ∷ []))
-counts-more vs x h =
-    ext-getD 0 _ _ (length-set (countsOf vs) x _ ∙ (counts-length vs ∙ sym (counts-length (vs ++ (x ∷ []))))) (λ i l.
-    let k : i < 4 = omega (arith, length-set (countsOf vs) x (getD (countsOf vs) x 0 + 1), counts-length vs) in
-    by i k (ℕ-discrete i x))
-  where
-    by : (i : ℕ) → i < 4 → Dec (i ≡ x) → getD (set (countsOf vs) x (getD (countsOf vs) x 0 + 1)) i 0 ≡ getD (countsOf (vs ++ (x ∷ []))) i 0
-    by i k (yes e) =
-        let room : x < length (countsOf vs) = omega (arith, counts-length vs) in
-        rw (e, getD-set-same (countsOf vs) x (getD (countsOf vs) x 0 + 1) 0 room, counts-at vs x h, counts-at (vs ++ (x ∷ [])) x h, count-more vs x x, eq-eqb x x refl)
-    by i k (no n) =
-        rw (getD-set-other (countsOf vs) x i (getD (countsOf vs) x 0 + 1) 0 n, counts-at vs i k, counts-at (vs ++ (x ∷ [])) i k, count-more vs x i, ne-eqb x i (λ e. n (sym e)))
-        (omega arith)
+  abbrev counts-set : List ℕ
+  counts-set = set counts-before x (getD counts-before x 0 + 1)
+
+  count-after : (i : ℕ) → i < 4 → getD counts-after i 0 ≡ countOf vs i + cond (eqb x i) 1 0
+  unfolding countOf
+  count-after i l = counts-at (vs ++ (x ∷ [])) i l ∙ count-append vs (x ∷ []) i ∙ omega arith
+
+  count-set : (i : ℕ) → i < 4 → Dec (i ≡ x) → getD counts-set i 0 ≡ getD counts-after i 0
+  count-set i l (yes e) =
+      let room : x < length counts-before = omega (arith, counts-length vs) in
+      rw (e, getD-set-same counts-before x (getD counts-before x 0 + 1) 0 room, counts-at vs x h, count-after x h, eq-eqb x x refl)
+  count-set i l (no n) =
+      rw (getD-set-other counts-before x i (getD counts-before x 0 + 1) 0 n, counts-at vs i l, count-after i l, ne-eqb x i (λ e. n (sym e)))
+      (omega arith)
+
+  counts-more : counts-set ≡ counts-after
+  counts-more =
+      let size : length counts-set ≡ 4 = length-set counts-before x _ ∙ counts-length vs in
+      ext-getD 0 counts-set counts-after (size ∙ sym (counts-length (vs ++ (x ∷ [])))) (λ i l. count-set i (rw size at l) (ℕ-discrete i x))
 
 -- ---- spectrum after spectrum
 abbrev spectraHere : Mode → List Float → ℕ
 spectraHere mode xs = spectraIn (totalCarriers mode) (length xs)
 
--- the vote of spectrum j
-abbrev voteAt : Mode → List ℕ → List Float → ℕ → ℕ
-voteAt mode kinds xs j = voteOf j (choiceOf mode kinds (spectrumAt (totalCarriers mode) xs j))
+-- the votes of the spectra before j
+abbrev votesTo : Mode → List ℕ → List Float → ℕ → List ℕ
+votesTo mode kinds xs j = votes (upTo (ballotAt mode kinds xs) j)
 
-pub votes-length : (mode : Mode) (kinds : List ℕ) (xs : List Float) → length (votes mode kinds xs) ≡ spectraHere mode xs
-unfolding votes
-votes-length mode kinds xs = length-upTo (voteAt mode kinds xs) (spectraHere mode xs)
+length-to : (mode : Mode) (kinds : List ℕ) (xs : List Float) (j : ℕ) → length (votesTo mode kinds xs j) ≡ j
+length-to mode kinds xs j = votes-length 0 (upTo (ballotAt mode kinds xs) j) ∙ length-upTo (ballotAt mode kinds xs) j
 
--- the votes of the spectra before j, which starts at from, are counted; w is the code's count of a spectrum's floats
+votes-more : (mode : Mode) (kinds : List ℕ) (xs : List Float) (j : ℕ)
+    → votesTo mode kinds xs (j + 1) ≡ votesTo mode kinds xs j ++ (voteOf j (ballotAt mode kinds xs j .choice) ∷ [])
+unfolding votesFrom
+votes-more mode kinds xs j =
+    let z : 0 + j ≡ j = omega arith in
+    rw add-one (votes-append 0 (upTo (ballotAt mode kinds xs) j) (ballotAt mode kinds xs j ∷ []) ∙ rw (length-upTo (ballotAt mode kinds xs) j, z))
+
+pub votes-few : (mode : Mode) (kinds : List ℕ) (xs : List Float) (v : ℕ) → countOf (votes (ballots mode kinds xs)) v ≤ spectraHere mode xs
+unfolding ballots
+votes-few mode kinds xs v = omega (arith, count-few (votesTo mode kinds xs (spectraHere mode xs)) v, length-to mode kinds xs (spectraHere mode xs))
+
+-- they are counted, and spectrum j starts at from; w is the code's count of a spectrum's floats
 pub record Counted (mode : Mode) (kinds : List ℕ) (xs : List Float) (w : ℕ) (counts : List ℕ) (from j : ℕ) : Type 0 where
   pub floats : w ≡ 2 * totalCarriers mode
   pub start : from ≡ j * w
   pub passed : j ≤ spectraHere mode xs
-  pub counted : counts ≡ countsOf (upTo (voteAt mode kinds xs) j)
+  pub counted : counts ≡ countsOf (votesTo mode kinds xs j)
 
 module _ {mode : Mode} {kinds : List ℕ} {xs : List Float} {w : ℕ} where
   pub begin : w ≡ 2 * totalCarriers mode → Counted mode kinds xs w (0 ∷ 0 ∷ 0 ∷ 0 ∷ []) 0 0
-  unfolding countsOf countOf
+  unfolding countsOf countOf votesFrom
   begin e = record { floats = e; start = sym (zero-mul w); passed = omega arith; counted = refl }
 
   module _ {signs : List ℕ} (p : Votable mode (length xs) signs) {counts : List ℕ} {from j : ℕ} (c : Counted mode kinds xs w counts from j) where
@@ -105,16 +117,16 @@ module _ {mode : Mode} {kinds : List ℕ} {xs : List Float} {w : ℕ} where
       abbrev part : List Float
       part = take (from + w - from) (drop from xs)
 
-      one : from + w - from ≡ w
-      one = omega arith
+      width : from + w - from ≡ w
+      width = omega arith
 
       pub spectrum : Spectrum mode (length part) signs
       spectrum =
-          let size : length part ≡ w = rw one (length-take-le w (drop from xs) (rw (length-drop from xs) (omega (arith, room inside)))) in
+          let size : length part ≡ w = rw width (length-take-le w (drop from xs) (rw (length-drop from xs) (omega (arith, room inside)))) in
           record { floats = size ∙ c .floats; signed = p .signed }
 
       float-at : (i : ℕ) → i < w → getD part i nan ≡ getD xs (from + i) nan
-      float-at i l = rw (one, getD-take w (drop from xs) i nan l, getD-drop from xs i nan)
+      float-at i l = rw (width, getD-take w (drop from xs) i nan l, getD-drop from xs i nan)
 
       part-at : (k : ℕ) → k < totalCarriers mode → pairAt part k ≡ spectrumAt (totalCarriers mode) xs j k
       part-at k l =
@@ -124,14 +136,17 @@ module _ {mode : Mode} {kinds : List ℕ} {xs : List Float} {w : ℕ} where
           rw (float-at (2 * k) (omega (arith, c .floats)), float-at (2 * k + 1) (omega (arith, c .floats)), re, im)
 
       module _ {r : ℕ} (e : r ≡ choiceOf mode kinds (pairAt part)) where
-        voted : voteOf j r ≡ voteAt mode kinds xs j
-        voted = ap (voteOf j) (e ∙ choice-alike mode kinds (pairAt part) (spectrumAt (totalCarriers mode) xs j) part-at)
+        voted : voteOf j r ≡ voteOf j (ballotAt mode kinds xs j .choice)
+        unfolding ballotOf
+        voted =
+            let same = ballot-alike mode kinds (spectrumAt (totalCarriers mode) xs j) (pairAt part) part-at in
+            ap (voteOf j) e ∙ ap (λ (b : Ballot). voteOf j (b .choice)) same
 
         pub few-votes : getD counts (voteOf j r) 0 < 1024
         few-votes =
-            let vs = upTo (voteAt mode kinds xs) j in
+            let vs = votesTo mode kinds xs j in
             let n : getD counts (voteOf j r) 0 ≡ countOf vs (voteOf j r) = rw (c .counted) (counts-at vs (voteOf j r) (omega arith)) in
-            omega (arith, n, count-few vs (voteOf j r), length-upTo (voteAt mode kinds xs) j, within)
+            omega (arith, n, count-few vs (voteOf j r), length-to mode kinds xs j, within)
 
         pub again : Counted mode kinds xs w (set counts (voteOf j r) (getD counts (voteOf j r) 0 + 1)) (from + w) (j + 1)
         again =
@@ -139,12 +154,12 @@ module _ {mode : Mode} {kinds : List ℕ} {xs : List Float} {w : ℕ} where
               floats = c .floats;
               start = rw (add-one j, suc-mul) (omega (arith, c .start));
               passed = omega (arith, inside);
-              counted = rw (c .counted, voted, add-one j) (counts-more (upTo (voteAt mode kinds xs) j) (voteAt mode kinds xs j) (omega arith));
+              counted = rw (c .counted, voted, votes-more mode kinds xs j) (counts-more (votesTo mode kinds xs j) _ (omega arith));
             }
 
-    pub done : length xs ≤ from → counts ≡ countsOf (votes mode kinds xs)
-    unfolding votes
-    done h = c .counted ∙ ap (λ (n : ℕ). countsOf (upTo (voteAt mode kinds xs) n)) (by (decLt j (spectraHere mode xs)))
+    pub done : length xs ≤ from → counts ≡ countsOf (votes (ballots mode kinds xs))
+    unfolding ballots
+    done h = c .counted ∙ ap (λ (n : ℕ). countsOf (votesTo mode kinds xs n)) (by (decLt j (spectraHere mode xs)))
       where
         by : Dec (j < spectraHere mode xs) → j ≡ spectraHere mode xs
         by (yes l) = absurd (omega (arith, room l, c .floats, sized mode .band))

@@ -25,10 +25,10 @@ use Rattle.spectra.specs.Spectra.{pairAt}
 use Rattle.prbs.specs.Signs.{bandSigns}
 use Rattle.prbs.specs.Buffered.{signs-length}
 use Rattle.pilot_phase.specs.declared.Run.{Run}
-use Rattle.pilot_phase.specs.PilotPhase.{pilots, twelveApart, productSum, energySum, phaseMetric}
+use Rattle.pilot_phase.specs.Ballots.{pilots, twelveApart, pilotPairs, productSum, energySum, phaseMetric}
 use Rattle.pilot_phase.specs.Inner.{twelfths, Parted, Walked, Walkable, Walks, Spectrum}
 use Rattle.pilot_phase.specs.Pilots.{twelves}
-use Rattle.pilot_phase.proofs.Pilots.{segmentPilots, pilots-by-segment, coherent-pilots, differential-pilots}
+use Rattle.pilot_phase.proofs.BySegment.{segmentPilots, pilots-by-segment, coherent-pilots, differential-pilots}
 use Rattle.pilot_phase.proofs.Walking.{walk-apart}
 
 -- no pilot yet
@@ -47,6 +47,10 @@ none-yet mode y next r j s e =
 abbrev before : Mode → List ℕ → ℕ → ℕ → List ℕ
 before mode kinds phase place = joined (segmentPilots mode kinds phase) (take place order)
 
+-- the lowest pilot of a segment has a place in it
+pub lowest-below : (mode : Mode) (phase : ℕ) → phase < 4 → 3 * phase < carriersPerSegment mode
+lowest-below mode phase l = omega (arith, sized mode .carriers-low)
+
 -- the run is over them; c is the code's count of a segment's carriers
 pub record WalkedTo (mode : Mode) (kinds : List ℕ) (y : List Float) (phase c place : ℕ) (run : Run) : Type 0 where
   pub carriers : c ≡ carriersPerSegment mode
@@ -59,37 +63,53 @@ module _ {mode : Mode} {kinds : List ℕ} {y : List Float} {phase c : ℕ} where
   begin {run} e j s g = record { carriers = e; passed = omega arith; walked = none-yet mode (pairAt y) (0 * c + 3 * phase) run j s g }
 
   module _ {place : ℕ} {run : Run} (w : WalkedTo mode kinds y phase c place run) where
-    -- a segment's pilots lie within the band
-    pub ends : place < 13 → (place * c + c < totalCarriers mode) × (totalCarriers mode ≤ 5617) × (12 * (c / 12) ≡ c)
-    ends h = (rw (w .carriers) (segment-ends mode place h), sized mode .band-high, omega (arith, w .carriers, twelves mode))
-
-    pub walkable : {signs : List ℕ} → phase < 4 → Spectrum mode (length y) signs → place < 13 → Walkable (place * c + 3 * phase) (c / 12) (length y) (length signs)
-    walkable {signs} l p h =
-        let size : length signs ≡ totalCarriers mode = ap length (p .signed) ∙ signs-length mode in
-        record { some = omega (arith, w .carriers, sized mode .carriers-low); inside = omega (arith, ends h); floats = omega (arith, p .floats); small = omega (arith, ends h) }
-
     more : place < 13 → before mode kinds phase (place + 1) ≡ before mode kinds phase place ++ segmentPilots mode kinds phase (segmentAt place)
     more h = joined-more (segmentPilots mode kinds phase) order place h
 
     next : (place + 1) * c ≡ place * c + c
     next = ap (λ (n : ℕ). n * c) (add-one place) ∙ suc-mul place c
 
-    pub again-coherent : {r : Run} {signs : List ℕ} → phase < 4 → signs ≡ bandSigns mode → place < 13 → kindFrom (getD kinds (segmentAt place) 0) ≡ Coherent
-        → Walks run y signs (place * c + 3 * phase) (c / 12) r → WalkedTo mode kinds y phase c (place + 1) r
-    again-coherent l p h e s =
-        let part : segmentPilots mode kinds phase (segmentAt place) ≡ twelfths (place * c + 3 * phase) (c / 12) = coherent-pilots mode kinds phase (segmentAt place) l e ∙ rw (place-of-segment place h, w .carriers) in
-        let to : place * c + 3 * phase + 12 * (c / 12) ≡ (place + 1) * c + 3 * phase = omega (arith, ends h, next) in
-        record { carriers = w .carriers; passed = omega arith; walked = rw (more h, part, sym to) (s .walked mode p (before mode kinds phase place) (w .walked)) }
+    -- the segment at this place is coherent, and k is its lowest pilot
+    module _ (l : phase < 4) (h : place < 13) {k : ℕ} (at : k ≡ place * carriersPerSegment mode + 3 * phase) where
+      from : k ≡ place * c + 3 * phase
+      from = at ∙ rw (w .carriers)
 
-    pub again-differential : {r : Run} → place < 13 → kindFrom (getD kinds (segmentAt place) 0) ≡ Differential → Parted run r → WalkedTo mode kinds y phase c (place + 1) r
-    again-differential h e g =
-        let same : before mode kinds phase (place + 1) ≡ before mode kinds phase place = more h ∙ rw (differential-pilots mode kinds phase (segmentAt place) e) (append-nil (before mode kinds phase place)) in
-        record { carriers = w .carriers; passed = omega arith; walked = rw same (walk-apart (w .walked) (omega (arith, next, w .carriers, sized mode .carriers-low)) g) }
+      -- its pilots lie within the band
+      ends : (place * c + c < totalCarriers mode) × (12 * (c / 12) ≡ c)
+      ends = (rw (w .carriers) (segment-ends mode place h), omega (arith, w .carriers, twelves mode))
+
+      pub walkable : {signs : List ℕ} → Spectrum mode (length y) signs → Walkable k (c / 12) (length y) (length signs)
+      walkable {signs} p =
+          let size : length signs ≡ totalCarriers mode = ap length (p .signed) ∙ signs-length mode in
+          record {
+            some = omega (arith, w .carriers, sized mode .carriers-low);
+            inside = omega (arith, from, ends);
+            floats = omega (arith, p .floats);
+            small = omega (arith, sized mode .band-high);
+          }
+
+      pub again-coherent : {r : Run} {signs : List ℕ} → signs ≡ bandSigns mode → kindFrom (getD kinds (segmentAt place) 0) ≡ Coherent
+          → Walks run y signs k (c / 12) r → WalkedTo mode kinds y phase c (place + 1) r
+      again-coherent p e s =
+          let part : segmentPilots mode kinds phase (segmentAt place) ≡ twelfths k (c / 12) =
+          coherent-pilots mode kinds phase (segmentAt place) l e ∙ rw (place-of-segment place h, at, w .carriers) in
+          let to : k + 12 * (c / 12) ≡ (place + 1) * c + 3 * phase = omega (arith, from, ends, next) in
+          let here : Walked mode (pairAt y) (before mode kinds phase place) k run = rw from (w .walked) in
+          record { carriers = w .carriers; passed = omega arith; walked = rw (more h, part, sym to) (s .walked mode p (before mode kinds phase place) here) }
+
+    pub again-differential : {r : Run} → place < 13 → kindFrom (getD kinds (segmentAt place) 0) ≡ Differential → Parted run r
+        → WalkedTo mode kinds y phase c (place + 1) r
+    again-differential {r} h e g =
+        let none = differential-pilots mode kinds phase (segmentAt place) e in
+        let same : before mode kinds phase (place + 1) ≡ before mode kinds phase place = more h ∙ rw none (append-nil (before mode kinds phase place)) in
+        let apart : Walked mode (pairAt y) (before mode kinds phase place) ((place + 1) * c + 3 * phase) r =
+        walk-apart (w .walked) (omega (arith, next, w .carriers, sized mode .carriers-low)) g in
+        record { carriers = w .carriers; passed = omega arith; walked = rw same apart }
 
     -- the run over all segments
     module _ (h : 13 ≤ place) where
       abbrev ks : List ℕ
-      ks = twelveApart (pilots mode kinds phase)
+      ks = pilotPairs mode kinds phase
 
       all : before mode kinds phase place ≡ pilots mode kinds phase
       all = let z : place ≡ 13 = omega (arith, w .passed) in rw z (sym (pilots-by-segment mode kinds phase))

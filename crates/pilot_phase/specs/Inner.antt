@@ -17,12 +17,13 @@ use Rattle.pilot_phase.specs.declared.PhaseAnswer.{PhaseAnswer}
 use Rattle.pilot_phase.specs.declared.PilotAnswer.{PilotAnswer}
 use Rattle.pilot_phase.specs.declared.Pilot.{Pilot}
 use Rattle.pilot_phase.specs.declared.Run.{Run}
-use Rattle.pilot_phase.specs.PilotPhase.{pilots, twelveApart, unsigned, productSum, energySum, wonBy, noCounts}
+use Rattle.pilot_phase.specs.Ballots.{pilots, twelveApart, timesPilot, productSum, energySum}
+use Rattle.pilot_phase.specs.PilotPhase.{wonBy, noCounts}
 
 -- ---- one spectrum
--- count carriers from first on, 12 apart
+-- count carriers from the lowest on, 12 apart
 abbrev pub twelfths : ℕ → ℕ → List ℕ
-twelfths first count = upTo (λ i. first + 12 * i) count
+twelfths lowest count = upTo (λ i. lowest + 12 * i) count
 
 -- the run s with the next pilot not 12 further on
 pub record Parted (s r : Run) : Type 0 where
@@ -49,12 +50,12 @@ pub record Joined (s : Run) (v : Pair) (r : Run) : Type 0 where
 
 -- a run keeps the last of the pilots ks, 12 below the next
 pub record Kept (mode : Mode) (y : ℕ → Pair) (ks : List ℕ) (next : ℕ) (r : Run) : Type 0 where
-  pub front : List ℕ
+  pub earlier : List ℕ
   pub last : ℕ
-  pub ends : ks ≡ front ++ (last ∷ [])
+  pub ends : ks ≡ earlier ++ (last ∷ [])
   pub twelve : next ≡ last + 12
-  pub value : of32 (r .value) ≡ unsigned mode y last
-  pub norm : r .norm ≡ norm32 (unsigned mode y last)
+  pub value : of32 (r .value) ≡ timesPilot mode y last
+  pub norm : r .norm ≡ norm32 (timesPilot mode y last)
 
 -- a run over the pilots ks of the spectrum y, where the next is `next`, or above it if the run is not joined
 pub record Walked (mode : Mode) (y : ℕ → Pair) (ks : List ℕ) (next : ℕ) (r : Run) : Type 0 where
@@ -63,16 +64,17 @@ pub record Walked (mode : Mode) (y : ℕ → Pair) (ks : List ℕ) (next : ℕ) 
   pub kept : r .joined ≡ true → Kept mode y ks next r
   pub apart : r .joined ≡ false → (n : ℕ) → next ≤ n → twelveApart (ks ++ (n ∷ [])) ≡ twelveApart ks
 
--- count carriers from first on, at least one, 12 apart, lie within a spectrum of n floats with m signs: the last is below m
-pub record Walkable (first count n m : ℕ) : Type 0 where
+-- count carriers from the lowest on, at least one, 12 apart, lie within a spectrum of n floats with m signs: the last is below m
+pub record Walkable (lowest count n m : ℕ) : Type 0 where
   pub some : 0 < count
-  pub inside : first + 12 * count < m + 12
+  pub inside : lowest + 12 * count < m + 12
   pub floats : n ≡ 2 * m
   pub small : m ≤ 5617
 
 -- the run s led on over such carriers, whatever was walked before
-pub record Walks (s : Run) (y : List Float) (signs : List ℕ) (first count : ℕ) (r : Run) : Type 0 where
-  pub walked : (mode : Mode) → signs ≡ bandSigns mode → (ks : List ℕ) → Walked mode (pairAt y) ks first s → Walked mode (pairAt y) (ks ++ twelfths first count) (first + 12 * count) r
+pub record Walks (s : Run) (y : List Float) (signs : List ℕ) (lowest count : ℕ) (r : Run) : Type 0 where
+  pub walked : (mode : Mode) → signs ≡ bandSigns mode → (ks : List ℕ) → Walked mode (pairAt y) ks lowest s
+      → Walked mode (pairAt y) (ks ++ twelfths lowest count) (lowest + 12 * count) r
 
 -- n floats are one spectrum of the band, with the band's signs
 pub record Spectrum (mode : Mode) (n : ℕ) (signs : List ℕ) : Type 0 where

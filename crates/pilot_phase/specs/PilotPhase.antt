@@ -1,101 +1,60 @@
--- The pilot phase (acquire.rs, `detect_sp_phase`; document 01, "The pilot phase"). For each spectrum and each of the four phases, products of
--- scattered pilots 12 carriers apart, with their known signs taken off, add up coherently for the right phase alone; the best phase of
--- each spectrum, turned back by its symbol number, is its vote.
--- Assumes nothing.
-use Prim.Native.Nat.{ℕ, zero, suc, _+_, _-_, _*_, _%_}
+-- The pilot phase (acquire.rs, `detect_sp_phase`; document 01, "The pilot phase"). Each symbol's choice, turned back by the symbol's number, is
+-- its vote for the phase of symbol 0; the phase with the most votes is answered, with its share of them, the four counts and the lead. All this
+-- is a function of the ballots (`Ballots`).
+-- Definitions only.
+use Prim.Native.Nat.{ℕ, zero, suc, _+_, _-_, _%_}
 use mathlib.Core.Bool.{cond}
-use mathlib.Core.List.{List, [], _∷_, map}
+use mathlib.Core.List.{List, [], _∷_}
 use mathlib.Core.Path.{_≡_}
 use lib.Dec.{eqb, leb, ltb}
 use lib.IntN.{pos}
 use lib.ListN.{getD, length}
-use lib.Ieee.{Float, binary32, mul, div, lt, ofInt, ofBits}
-use Rattle.ieee.specs.Constants.{plusZero}
-use Rattle.ieee.specs.Sums.{total}
-use Rattle.lists.specs.Lists.{upTo, chosen}
+use lib.Ieee.{Float, binary32, div, ofInt}
+use Rattle.lists.specs.Lists.{upTo}
 use Rattle.lists.specs.Refusals.{unless}
 use Rattle.params.specs.declared.Mode.{Mode}
 use Rattle.params.specs.declared.ModeNumber.{ModeNumber}
 use Rattle.params.specs.declared.ModeNumber.the-variants.{Known, Unknown}
 use Rattle.params.specs.Params.{totalCarriers}
-use Rattle.complex.specs.Complex.{Pair, pair, product, conjugate, scaled, norm32}
-use Rattle.complex.specs.Totals.{totals}
-use Rattle.spectra.specs.Spectra.{pairAt, spectraIn, areSpectra}
-use Rattle.prbs.specs.Signs.{bandSigns, pilotValue}
-use Rattle.frame.specs.Roles.{bandRoles, wide}
+use Rattle.spectra.specs.Spectra.{areSpectra}
 use Rattle.frame.specs.Operations.{areKinds}
 use Rattle.pilot_phase.specs.declared.PilotPhase.{PilotPhase}
 use Rattle.pilot_phase.specs.declared.PilotPhase.the-variants.{NoScatteredPilots, Phase}
 use Rattle.pilot_phase.specs.declared.PhaseAnswer.{PhaseAnswer}
 use Rattle.pilot_phase.specs.declared.PhaseAnswer.the-variants.{Detected, Refused}
 use Rattle.pilot_phase.specs.declared.PilotAnswer.{PilotAnswer}
+use Rattle.pilot_phase.specs.Ballots.{pilots, Ballot, ballots}
 
--- ---- the scattered pilots of a phase, ascending: the carriers whose role byte is 1
-unfoldable pub pilots : Mode → List ℕ → ℕ → List ℕ
-pilots mode kinds phase = chosen (λ role. eqb role 1) 0 (bandRoles mode phase (wide kinds))
+-- ---- from the phase of symbol 0 to that of symbol j, and back
+abbrev pub phaseAt : ℕ → ℕ → ℕ
+phaseAt phase j = (phase + j) % 4
 
--- those of a list whose next entry is 12 further on
-unfoldable pub twelveApart : List ℕ → List ℕ
-twelveApart [] = []
-twelveApart (a ∷ []) = []
-twelveApart (a ∷ b ∷ ks) = cond (eqb b (a + 12)) (a ∷ twelveApart (b ∷ ks)) (twelveApart (b ∷ ks))
-
--- ---- one spectrum: y gives the pair of each carrier
--- a carrier's pair with its pilot's sign and amplitude put to it
-unfoldable pub unsigned : Mode → (ℕ → Pair) → ℕ → Pair
-unsigned mode y k = scaled binary32 (y k) (pilotValue (getD (bandSigns mode) k 0) .re)
-
-abbrev pub pilotProduct : Mode → (ℕ → Pair) → ℕ → Pair
-pilotProduct mode y a = product binary32 (unsigned mode y (a + 12)) (conjugate (unsigned mode y a))
-
-abbrev pub pilotEnergy : Mode → (ℕ → Pair) → ℕ → Float
-pilotEnergy mode y a = mul binary32 (norm32 (unsigned mode y a)) (norm32 (unsigned mode y (a + 12)))
-
-unfoldable pub productSum : Mode → (ℕ → Pair) → List ℕ → Pair
-productSum mode y ks = totals binary32 (pair (plusZero binary32) (plusZero binary32)) (map (pilotProduct mode y) ks)
-
-unfoldable pub energySum : Mode → (ℕ → Pair) → List ℕ → Float
-energySum mode y ks = total binary32 (plusZero binary32) (map (pilotEnergy mode y) ks)
-
--- how coherent the pilots of a phase are; 0.0 without energy
-unfoldable pub phaseMetric : Mode → List ℕ → (ℕ → Pair) → ℕ → Float
-phaseMetric mode kinds y phase =
-    let ks = twelveApart (pilots mode kinds phase) in
-    cond (lt (plusZero binary32) (energySum mode y ks)) (div binary32 (productSum mode y ks .re) (energySum mode y ks)) (plusZero binary32)
-
--- the first phase with the greatest metric; 0 where none is above -1
-pub record Choice : Type 0 where
-  pub phase : ℕ
-  pub metric : Float
-
-unfoldable pub chooseFrom : (ℕ → Float) → Choice → ℕ → ℕ → Choice
-chooseFrom f best p zero = best
-chooseFrom f best p (suc n) = chooseFrom f (cond (lt (best .metric) (f p)) (record { phase = p; metric = f p }) best) (suc p) n
-
--- -1.0
-abbrev pub minusOne : Float
-minusOne = ofBits binary32 0xbf80_0000
-
-unfoldable pub choiceOf : Mode → List ℕ → (ℕ → Pair) → ℕ
-choiceOf mode kinds y = chooseFrom (phaseMetric mode kinds y) (record { phase = 0; metric = minusOne }) 0 4 .phase
-
--- ---- the votes: a symbol's choice, turned back by its number
+-- a symbol's choice, turned back by its number; 4 is added first, since ℕ stops at 0
 abbrev pub voteOf : ℕ → ℕ → ℕ
-voteOf j phase = (phase + 4 - j % 4) % 4
+voteOf j choice = (choice + 4 - j % 4) % 4
 
--- spectrum j of flat spectra
-abbrev pub spectrumAt : ℕ → List Float → ℕ → ℕ → Pair
-spectrumAt len xs j k = pairAt xs (j * len + k)
+-- ---- the votes of ballots, the first of them of symbol j
+unfoldable pub votesFrom : ℕ → List Ballot → List ℕ
+votesFrom j [] = []
+votesFrom j (b ∷ bs) = voteOf j (b .choice) ∷ votesFrom (suc j) bs
 
-unfoldable pub votes : Mode → List ℕ → List Float → List ℕ
-votes mode kinds xs = upTo (λ j. voteOf j (choiceOf mode kinds (spectrumAt (totalCarriers mode) xs j))) (spectraIn (totalCarriers mode) (length xs))
+abbrev pub votes : List Ballot → List ℕ
+votes bs = votesFrom 0 bs
 
 unfoldable pub countOf : List ℕ → ℕ → ℕ
 countOf [] v = 0
 countOf (x ∷ xs) v = cond (eqb x v) 1 0 + countOf xs v
 
+-- the four counts
 unfoldable pub countsOf : List ℕ → List ℕ
 countsOf vs = upTo (countOf vs) 4
+
+-- two lists of counts, phase by phase; and counts whose votes are all turned back by n symbols
+abbrev pub plusCounts : List ℕ → List ℕ → List ℕ
+plusCounts xs ys = upTo (λ v. getD xs v 0 + getD ys v 0) 4
+
+abbrev pub turnedBack : ℕ → List ℕ → List ℕ
+turnedBack n counts = upTo (λ v. getD counts (phaseAt v n) 0) 4
 
 -- ---- the phase with the most votes, the larger on a tie; its share; the lead over the next
 abbrev pub better : List ℕ → ℕ → ℕ → ℕ
@@ -107,13 +66,22 @@ wonBy counts = better counts (better counts (better counts 0 1) 2) 3
 unfoldable pub shareOf : ℕ → ℕ → Float
 shareOf n total = div binary32 (ofInt binary32 (pos n)) (ofInt binary32 (pos (cond (eqb total 0) 1 total)))
 
--- the largest of the counts of the phases other than p
+unfoldable pub phaseOf : List Ballot → PilotPhase
+phaseOf bs = let counts = countsOf (votes bs) in Phase (wonBy counts) (shareOf (getD counts (wonBy counts) 0) (length bs))
+
+abbrev pub larger : ℕ → ℕ → ℕ
+larger x m = cond (ltb m x) x m
+
+abbrev pub largest : List ℕ → ℕ
+largest [] = 0
+largest (x ∷ xs) = larger x (largest xs)
+
+-- the four counts with 0 for that of phase p; the largest of the other three
+abbrev pub others : List ℕ → ℕ → List ℕ
+others counts p = upTo (λ q. cond (eqb q p) 0 (getD counts q 0)) 4
+
 unfoldable pub nextTo : List ℕ → ℕ → ℕ
-nextTo counts p = largest (map (λ q. cond (eqb q p) 0 (getD counts q 0)) (0 ∷ 1 ∷ 2 ∷ 3 ∷ []))
-  where
-    largest : List ℕ → ℕ
-    largest [] = 0
-    largest (x ∷ xs) = cond (ltb (largest xs) x) x (largest xs)
+nextTo counts p = largest (others counts p)
 
 unfoldable pub leadOf : List ℕ → ℕ
 leadOf counts = getD counts (wonBy counts) 0 - nextTo counts (wonBy counts)
@@ -125,10 +93,7 @@ phaseCode (Known m) kinds floats = unless (areKinds kinds) 2 (unless (areSpectra
 
 -- what is detected: no scattered pilots, or the phase with its share
 unfoldable pub detected : Mode → List ℕ → List Float → PilotPhase
-detected m kinds xs =
-    let counts = countsOf (votes m kinds xs) in
-    cond (eqb (length (pilots m kinds 0)) 0) NoScatteredPilots
-    (Phase (wonBy counts) (shareOf (getD counts (wonBy counts) 0) (spectraIn (totalCarriers m) (length xs))))
+detected m kinds xs = cond (eqb (length (pilots m kinds 0)) 0) NoScatteredPilots (phaseOf (ballots m kinds xs))
 
 unfoldable pub phaseAnswer : ModeNumber → List ℕ → List Float → PhaseAnswer
 phaseAnswer Unknown kinds xs = Refused 1
@@ -144,7 +109,7 @@ unfoldable pub countsAnswer : ModeNumber → List ℕ → List Float → List �
 countsAnswer Unknown kinds xs = noCounts
 countsAnswer (Known m) kinds xs =
     cond (eqb (phaseCode (Known m) kinds (length xs)) 0)
-    (cond (eqb (length (pilots m kinds 0)) 0) noCounts (countsOf (votes m kinds xs)))
+    (cond (eqb (length (pilots m kinds 0)) 0) noCounts (countsOf (votes (ballots m kinds xs))))
     noCounts
 
 -- ---- document 01's number of each case, and the values that it gives; what was lent, where it gives none

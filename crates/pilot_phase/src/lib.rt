@@ -7,11 +7,15 @@ ghost use lib.ListN.{length};
 ghost use Rattle.params.specs.Params.{modeFrom};
 ghost use Rattle.complex.specs.Complex.{of32};
 ghost use Rattle.spectra.specs.Spectra.{pairAt};
-ghost use Rattle.pilot_phase.specs.PilotPhase.{phaseMetric, choiceOf, votes, countsOf, nextTo, PhaseDetected};
-ghost use Rattle.pilot_phase.specs.Inner.{Parted, Sized, PilotAt, Joined, Walkable, Walks, Spectrum, Votable, Won, somePilots, Nothing};
+ghost use Rattle.pilot_phase.specs.Ballots.{phaseMetric, choiceOf, ballots};
+ghost use Rattle.pilot_phase.specs.PilotPhase.{votes, countsOf, nextTo, PhaseDetected};
+ghost use Rattle.pilot_phase.specs.Inner.{Parted, Sized, PilotAt, Joined, Walkable, Walks, Spectrum};
+ghost use Rattle.pilot_phase.specs.Inner.{Votable, Won, somePilots, Nothing};
 use complex::C32;
 use frame::FrameLayout;
+use ofdm::BandCarrier;
 use ofdm::BandPlace;
+use ofdm::SegmentPlace;
 use params::Mode;
 use params::SegmentKind;
 
@@ -98,10 +102,11 @@ impl Run {
 }
 
 // The pilot at carrier k.
-fn pilot_at(y: &[f32], signs: &[u8], k: usize) -> Pilot
-    requires { ⌜ (k < length (now signs)) × (length (now y) ≡ 2 * length (now signs)) × (length (now signs) ≤ 5617) ⌝ }
-    ensures { λ r. ⌜ PilotAt (now (y .entry)) (now (signs .entry)) k r ⌝ }
+fn pilot_at(y: &[f32], signs: &[u8], carrier: BandCarrier) -> Pilot
+    requires { ⌜ (carrier .0 < length (now signs)) × (length (now y) ≡ 2 * length (now signs)) × (length (now signs) ≤ 5617) ⌝ }
+    ensures { λ r. ⌜ PilotAt (now (y .entry)) (now (signs .entry)) (carrier .0) r ⌝ }
 {
+    let k = carrier.0;
     let x = spectra::pair_at(y, k);
     let pilot = prbs::pilot_value(signs[k]);
     let value = x.scale(pilot.re);
@@ -111,21 +116,21 @@ fn pilot_at(y: &[f32], signs: &[u8], k: usize) -> Pilot
     }
 }
 
-// The pilots of a coherent segment, of which `first` is the lowest: `count` of them, 12 apart. Each is
+// The pilots of a coherent segment from its lowest on: `count` of them, 12 carriers apart. Each is
 // read before the root of the one below it is taken: neither waits for the other, so the processor
 // works at both.
-fn walk_segment(start: Run, y: &[f32], signs: &[u8], first: usize, count: usize) -> Run
-    requires { ⌜ Walkable first count (length (now y)) (length (now signs)) ⌝ }
-    ensures { λ r. ⌜ Walks start (now (y .entry)) (now (signs .entry)) first count r ⌝ }
+fn walk_segment(start: Run, y: &[f32], signs: &[u8], lowest: BandCarrier, count: usize) -> Run
+    requires { ⌜ Walkable (lowest .0) count (length (now y)) (length (now signs)) ⌝ }
+    ensures { λ r. ⌜ Walks start (now (y .entry)) (now (signs .entry)) (lowest .0) count r ⌝ }
 {
     let mut run = start;
-    let mut pilot = pilot_at(y, signs, first);
-    let mut k = first;
+    let mut pilot = pilot_at(y, signs, lowest);
+    let mut k = lowest.0;
     let last = count - 1;
     let mut i: usize = 0;
     while i < last {
         k += 12;
-        let next = pilot_at(y, signs, k);
+        let next = pilot_at(y, signs, BandCarrier(k));
         run = run.join(pilot);
         pilot = next;
         i += 1;
@@ -152,7 +157,9 @@ fn phase_metric(layout: FrameLayout, y: &[f32], signs: &[u8], phase: u8) -> f32
         let seg = ofdm::segment_at_position(BandPlace(place));
         match layout.kind(seg) {
             SegmentKind::Coherent => {
-                run = walk_segment(run, y, signs, place * c + 3 * phase as usize, c / 12);
+                let low = 3 * phase as usize;
+                let lowest = ofdm::band_carrier(mode, BandPlace(place), SegmentPlace(low));
+                run = walk_segment(run, y, signs, lowest, c / 12);
             }
             SegmentKind::Differential => {
                 run = run.apart();
@@ -190,7 +197,7 @@ fn choice(layout: FrameLayout, y: &[f32], signs: &[u8]) -> u8
 // The votes of all spectra, counted.
 fn count_votes(layout: FrameLayout, spectra: &[f32], signs: &[u8]) -> [u32; 4]
     requires { ⌜ Votable (layout .mode) (length (now spectra)) (now signs) ⌝ }
-    ensures { λ r. ⌜ r ≡ countsOf (votes (layout .mode) (layout .kinds) (now (spectra .entry))) ⌝ }
+    ensures { λ r. ⌜ r ≡ countsOf (votes (ballots (layout .mode) (layout .kinds) (now (spectra .entry)))) ⌝ }
 {
     let mode = layout.mode;
     let w = 2 * mode.total_carriers();

@@ -5,7 +5,7 @@ use mathlib.Core.Logic.{⊎-elim}
 use mathlib.Core.Path.{refl}
 use native.Mathlib.Omega.{arith}
 use Rattle.spectra.specs.Spectra.{pairAt}
-use Rattle.pilot_phase.specs.PilotPhase.{phaseMetric, choiceOf}
+use Rattle.pilot_phase.specs.Ballots.{phaseMetric, choiceOf}
 use Rattle.pilot_phase.proofs.Chosen.{Ahead, take, pass, done}
 use Rattle.pilot_phase.proofs.choice.Statement.{statement}
 use Rattle.pilot_phase.proofs.choice.Tie as tie

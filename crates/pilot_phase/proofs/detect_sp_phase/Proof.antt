@@ -19,7 +19,8 @@ nothing-requires c κs = search needs
 
 returns : tie.Need-returns
 returns c =
-    bad-layout (c .before .before .before .before .before .args .spectra .now) (c .before .before .new .ensures) (c .before .if1 .taken) (c .nothing .ensures)
+    let n = c .before .before in
+    bad-layout (n .before .before .before .args .spectra .now) (n .new .ensures) (c .before .if1 .taken) (c .nothing .ensures)
 
 total-carriers-requires : tie.Need-total-carriers-requires
 total-carriers-requires c κs = search needs
@@ -39,7 +40,8 @@ returns-2 : tie.Need-returns-2
 returns-2 c =
     let t = c .before .before in
     let n = t .before .before .before in
-    bad-length (n .before .before .before .args .spectra .now) (n .new .ensures) (t .before .before .if1 .left) (t .total-carriers .ensures) (c .before .if2 .taken) (c .nothing2 .ensures)
+    bad-length (n .before .before .before .args .spectra .now) (n .new .ensures) (t .before .before .if1 .left) (t .total-carriers .ensures)
+    (c .before .if2 .taken) (c .nothing2 .ensures)
 
 div-total : tie.Need-div-total
 div-total c =
@@ -53,7 +55,8 @@ returns-3 : tie.Need-returns-3
 returns-3 c =
     let t = c .before .before .before in
     let n = t .before .before .before in
-    too-many (n .before .before .before .args .spectra .now) (n .new .ensures) (t .before .before .if1 .left) (t .total-carriers .ensures) (c .before .before .if2 .left) (c .before .if3 .taken) (c .nothing3 .ensures)
+    too-many (n .before .before .before .args .spectra .now) (n .new .ensures) (t .before .before .if1 .left) (t .total-carriers .ensures)
+    (c .before .before .if2 .left) (c .before .if3 .taken) (c .nothing3 .ensures)
 
 has-pilots-requires : tie.Need-has-pilots-requires
 has-pilots-requires c κs = search needs
@@ -66,7 +69,8 @@ returns-4 c =
     let h = c .before .before .before in
     let t = h .before .before in
     let n = t .before .before .before in
-    no-pilots (n .before .before .before .args .spectra .now) (n .new .ensures) (t .before .before .if1 .left) (t .total-carriers .ensures) (h .before .if2 .left) (h .if3 .left) (sym (c .before .before .has-pilots .ensures) ∙ not-true _ (c .before .if4 .taken)) (c .nothing4 .ensures)
+    no-pilots (n .before .before .before .args .spectra .now) (n .new .ensures) (t .before .before .if1 .left) (t .total-carriers .ensures)
+    (h .before .if2 .left) (h .if3 .left) (sym (c .before .before .has-pilots .ensures) ∙ not-true _ (c .before .if4 .taken)) (c .nothing4 .ensures)
 
 sign-buffer-requires : tie.Need-sign-buffer-requires
 sign-buffer-requires c κs = search needs
@@ -84,21 +88,29 @@ slice-aggregate-band-w c =
 band-w-requires : tie.Need-band-w-requires
 band-w-requires c κs =
     let t = c .before .before .before .before .before .before in
-    front-length (t .before .before .before .new .result .layout .mode) (t .total-carriers .ensures) _ (c .before .sign-buffer .ensures) ∙ t .total-carriers .ensures
+    let m = t .before .before .before .new .result .layout .mode in
+    front-length m (t .total-carriers .ensures) _ (c .before .sign-buffer .ensures) ∙ t .total-carriers .ensures
 
 array-share-prefix-buffer : tie.Need-array-share-prefix-buffer
 array-share-prefix-buffer c =
-    written-room _ (c .before .before .before .before .before .before .before .before .total-carriers .ensures) _ (c .before .before .before .sign-buffer .ensures) (c .before .band-w .ensures)
+    let b = c .before .before .before in
+    let t = b .before .before .before .before .before in
+    written-room _ (t .total-carriers .ensures) _ (b .sign-buffer .ensures) (c .before .band-w .ensures)
 
 slice-aggregate-count-votes : tie.Need-slice-aggregate-count-votes
 slice-aggregate-count-votes c =
-    written-length _ (c .before .before .before .before .before .before .before .before .before .total-carriers .ensures) _ (c .before .before .before .before .sign-buffer .ensures) (c .before .before .band-w .ensures)
+    let b = c .before .before .before .before in
+    let t = b .before .before .before .before .before in
+    written-length _ (t .total-carriers .ensures) _ (b .sign-buffer .ensures) (c .before .before .band-w .ensures)
 
 count-votes-requires : tie.Need-count-votes-requires
 count-votes-requires c κs =
-    let h = c .before .before .before .before .before .before .before in
+    let b = c .before .before .before .before in
+    let h = b .before .before .before in
     let t = h .before .before in
-    votable _ (t .before .before .before .before .before .before .args .spectra .now) (t .total-carriers .ensures) (h .if3 .left) (h .before .if2 .left) (written-front _ (t .total-carriers .ensures) _ (c .before .before .before .before .sign-buffer .ensures) (c .before .before .band-w .ensures))
+    let xs = t .before .before .before .before .before .before .args .spectra .now in
+    let signs = written-front _ (t .total-carriers .ensures) _ (b .sign-buffer .ensures) (c .before .before .band-w .ensures) in
+    votable _ xs (t .total-carriers .ensures) (h .if3 .left) (h .before .if2 .left) signs
 
 won-by-requires : tie.Need-won-by-requires
 won-by-requires c κs = search needs
@@ -112,14 +124,18 @@ array-read-votes c = search needs
 int-to-float-share : tie.Need-int-to-float-share
 int-to-float-share c =
     let v = c .before .before in
-    let h = c .before .before .before .before .before .before .before .before .before .before .before in
+    let h = v .before .before .before .before .before .before .before .before .before in
     let t = h .before .before in
     let n = t .before .before .before in
-    whole-votes (n .new .result .layout .mode) (n .before .before .before .args .spectra .now) (t .total-carriers .ensures) (h .if3 .left) (n .new .result .layout .kinds) (v .before .count-votes .ensures) (v .won-by .ensures)
+    let layout = n .new .result .layout in
+    whole-votes (layout .mode) (n .before .before .before .args .spectra .now) (t .total-carriers .ensures) (h .if3 .left) (layout .kinds)
+    (v .before .count-votes .ensures) (v .won-by .ensures)
 
 int-to-float-share-2 : tie.Need-int-to-float-share-2
 int-to-float-share-2 c =
-    whole-total (c .before .before .before .before .before .before .before .before .before .before .before .before .if3 .left)
+    let v = c .before .before .before in
+    let h = v .before .before .before .before .before .before .before .before .before in
+    whole-total (h .if3 .left)
     (⊎-elim (λ w. w .1 ∙ sym (rw (eq-eqb _ _ (w .0 .taken)))) (λ w. w .1 ∙ sym (rw (ne-eqb _ _ (w .0 .left)))) (c .before .before .if5 .came))
 
 cast-phase : tie.Need-cast-phase
@@ -134,11 +150,14 @@ sub-lead c = lead-fits (c .before .before .before .before .won-by .ensures) (c .
 returns-5 : tie.Need-returns-5
 returns-5 c =
     let v = c .before .before .before .before in
-    let p = c .before .before .before .before .before .before .before .before .before .before .before in
+    let p = v .before .before .before .before .before .before .before in
     let h = p .before .before in
     let t = h .before .before in
     let n = t .before .before .before in
-    answered (n .before .before .before .args .spectra .now) (n .new .ensures) (t .before .before .if1 .left) (t .total-carriers .ensures) (h .before .if2 .left) (h .if3 .left) (v .before .count-votes .ensures) (v .won-by .ensures) (⊎-elim (λ w. w .1 ∙ sym (rw (eq-eqb _ _ (w .0 .taken)))) (λ w. w .1 ∙ sym (rw (ne-eqb _ _ (w .0 .left)))) (c .before .before .before .if5 .came)) (c .next-to .ensures) (sym (p .before .has-pilots .ensures) ∙ not-false _ (p .if4 .left))
+    answered (n .before .before .before .args .spectra .now) (n .new .ensures) (t .before .before .if1 .left) (t .total-carriers .ensures)
+    (h .before .if2 .left) (h .if3 .left) (v .before .count-votes .ensures) (v .won-by .ensures)
+    (⊎-elim (λ w. w .1 ∙ sym (rw (eq-eqb _ _ (w .0 .taken)))) (λ w. w .1 ∙ sym (rw (ne-eqb _ _ (w .0 .left)))) (c .before .before .before .if5 .came))
+    (c .next-to .ensures) (sym (p .before .has-pilots .ensures) ∙ not-false _ (p .if4 .left))
 
 pub detect-sp-phase-spec : {M : Type 1} → statement M
 detect-sp-phase-spec =

@@ -6,7 +6,7 @@ use mathlib.Core.Path.{_≡_}
 use native.Mathlib.Decide.{decLt}
 use native.Mathlib.Omega.{arith}
 use lib.ListN.{getD}
-use Rattle.pilot_phase.proofs.Pilots.{some-pilots, no-pilots}
+use Rattle.pilot_phase.proofs.BySegment.{some-pilots, no-pilots}
 use Rattle.pilot_phase.proofs.has_pilots.Statement.{statement}
 use Rattle.pilot_phase.proofs.has_pilots.Tie as tie
 
@@ -43,7 +43,9 @@ loop-less : tie.Need-loop-less Inv-loop μ-loop
 loop-less c = omega arith
 
 loop-again : tie.Need-loop-again Inv-loop μ-loop
-loop-again c = (omega arith, one-more (c .before .before .before .before .args .layout .kinds) _ _ (c .before .before .loop .inv .1) (c .if1 .left) (omega arith))
+loop-again c =
+    let l = c .before .before in
+    (omega arith, one-more (l .before .before .args .layout .kinds) _ _ (l .loop .inv .1) (c .if1 .left) (omega arith))
 
 returns-2 : tie.Need-returns-2 Inv-loop μ-loop
 returns-2 c = no-pilots _ _ (λ i h. c .before .loop .inv .1 i (omega arith))

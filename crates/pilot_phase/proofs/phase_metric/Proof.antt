@@ -8,15 +8,15 @@ use borrow.Author.Needs.{needs}
 use lib.ListN.{getD}
 use Rattle.params.specs.Params.{kindFrom}
 use Rattle.ofdm.specs.Band.{segmentAt}
-use Rattle.pilot_phase.proofs.Metric.{WalkedTo, begin, ends, walkable, again-coherent, again-differential, some-energy, no-energy}
+use Rattle.pilot_phase.proofs.Metric.{WalkedTo, lowest-below, begin, walkable, again-coherent, again-differential, some-energy, no-energy}
 use Rattle.pilot_phase.proofs.phase_metric.Statement.{statement}
 use Rattle.pilot_phase.proofs.phase_metric.Tie as tie
 
 abbrev Inv-loop : tie.InvT-loop
-Inv-loop layout y signs phase c run₀ place₀ run place = WalkedTo (layout .mode) (layout .kinds) y phase c place run
+Inv-loop layout y signs phase mode c run₀ place₀ run place = WalkedTo (layout .mode) (layout .kinds) y phase c place run
 
 abbrev μ-loop : tie.MeasureT-loop
-μ-loop layout y signs phase c run₀ place₀ run place = 13 - place
+μ-loop layout y signs phase mode c run₀ place₀ run place = 13 - place
 
 carriers-per-segment-requires : tie.Need-carriers-per-segment-requires Inv-loop μ-loop
 carriers-per-segment-requires c κs = search needs
@@ -39,23 +39,21 @@ kind-requires c κs = search needs
 enum-told : tie.Need-enum-told Inv-loop μ-loop
 enum-told c = search needs
 
-mul-walk-segment : tie.Need-mul-walk-segment Inv-loop μ-loop
-mul-walk-segment c = omega (arith, ends (c .before .before .before .before .before .loop .inv) (c .before .before .before .before .loop-test .taken))
+mul-low : tie.Need-mul-low Inv-loop μ-loop
+mul-low c = let s = c .before .before .before .before .before .before .before .before .before .before .before in omega (arith, s .pre .0)
 
-mul-walk-segment-2 : tie.Need-mul-walk-segment-2 Inv-loop μ-loop
-mul-walk-segment-2 c = let p = c .before .before .before .before .before .before .before .before .before .before .before .pre in omega (arith, p .0)
-
-add-walk-segment : tie.Need-add-walk-segment Inv-loop μ-loop
-add-walk-segment c =
-    let l = c .before .before .before .before .before in
-    let s = l .before .before .before .before .before .before in
-    omega (arith, s .pre .0, ends (l .loop .inv) (c .before .before .before .before .loop-test .taken))
+band-carrier-requires : tie.Need-band-carrier-requires Inv-loop μ-loop
+band-carrier-requires c κs =
+    let t = c .before .before .before .before in
+    let s = t .before .before .before .before .before .before .before in
+    (t .loop-test .taken, lowest-below (s .args .layout .mode) (s .args .phase) (s .pre .0))
 
 walk-segment-requires : tie.Need-walk-segment-requires Inv-loop μ-loop
 walk-segment-requires c κs =
-    let l = c .before .before .before .before .before in
+    let t = c .before .before .before .before .before in
+    let l = t .before in
     let s = l .before .before .before .before .before .before in
-    walkable (l .loop .inv) (s .pre .0) (s .pre .1) (c .before .before .before .before .loop-test .taken)
+    walkable (l .loop .inv) (s .pre .0) (t .loop-test .taken) (c .band-carrier .ensures) (s .pre .1)
 
 enum-told-2 : tie.Need-enum-told-2 Inv-loop μ-loop
 enum-told-2 c = search needs
@@ -71,16 +69,23 @@ loop-less c = omega arith
 
 loop-again : tie.Need-loop-again Inv-loop μ-loop
 loop-again c =
-    let l = c .before .before .before .before in
+    let t = c .before .before .before in
+    let l = t .before in
     let s = l .before .before .before .before .before .before in
-    let h = c .before .before .before .loop-test .taken in
-    let known : kindFrom (getD (s .args .layout .kinds) (segmentAt (l .loop .place)) 0) ≡ c .before .kind .result = ap (λ (n : ℕ). kindFrom (getD (s .args .layout .kinds) n 0)) (sym (c .before .before .segment-at-position .ensures .0)) ∙ sym (c .before .kind .ensures) in
-    ⊎-elim (λ w. rw (w .3) (again-coherent (l .loop .inv) (s .pre .0) (s .pre .1 .signed) h (known ∙ w .1 .given .1) (w .2 .ensures)))
+    let h = t .loop-test .taken in
+    let known : kindFrom (getD (s .args .layout .kinds) (segmentAt (l .loop .place)) 0) ≡ c .before .kind .result =
+    ap (λ (n : ℕ). kindFrom (getD (s .args .layout .kinds) n 0)) (sym (c .before .before .segment-at-position .ensures .0))
+    ∙ sym (c .before .kind .ensures) in
+    ⊎-elim
+    (λ w. rw (w .4) (again-coherent (l .loop .inv) (s .pre .0) h (w .2 .ensures) (s .pre .1 .signed) (known ∙ w .1 .given .1) (w .3 .ensures)))
     (λ w. rw (w .3) (again-differential (l .loop .inv) h (known ∙ w .1 .given .1) (w .2 .ensures)))
     (c .match .came)
 
 returns : tie.Need-returns Inv-loop μ-loop
-returns c = some-energy (c .before .before .before .before .before .before .loop .inv) (c .before .before .before .before .before .loop-test .left) (c .before .before .before .if1 .taken)
+returns c =
+    let b = c .before .before .before in
+    let t = b .before .before in
+    some-energy (t .before .loop .inv) (t .loop-test .left) (b .if1 .taken)
 
 returns-2 : tie.Need-returns-2 Inv-loop μ-loop
 returns-2 c = no-energy (c .before .before .before .loop .inv) (c .before .before .loop-test .left) (c .if1 .left)
@@ -98,9 +103,8 @@ phase-metric-spec =
     segment-at-position-requires
     kind-requires
     enum-told
-    mul-walk-segment
-    mul-walk-segment-2
-    add-walk-segment
+    mul-low
+    band-carrier-requires
     walk-segment-requires
     enum-told-2
     apart-requires

@@ -10,11 +10,12 @@ use Rattle.pilot_phase.proofs.walk_segment.Statement.{statement}
 use Rattle.pilot_phase.proofs.walk_segment.Tie as tie
 
 abbrev Inv-loop : tie.InvT-loop
-Inv-loop y signs first count run₀ pilot₀ k₀ last i₀ run pilot k i =
-    Walkable first count (length y) (length signs) × (i < count) × (k ≡ first + 12 * i) × PilotAt y signs (first + 12 * i) pilot × Walks run₀ y signs first i run
+Inv-loop y signs count run₀ pilot₀ lowest last i₀ run pilot k i =
+    Walkable lowest count (length y) (length signs) × (i < count) × (k ≡ lowest + 12 * i) × PilotAt y signs (lowest + 12 * i) pilot
+    × Walks run₀ y signs lowest i run
 
 abbrev μ-loop : tie.MeasureT-loop
-μ-loop y signs first count run₀ pilot₀ k₀ last i₀ run pilot k i = count - i
+μ-loop y signs count run₀ pilot₀ lowest last i₀ run pilot k i = count - i
 
 pilot-at-requires : tie.Need-pilot-at-requires Inv-loop μ-loop
 pilot-at-requires c κs = let p = c .before .before .pre in (omega (arith, p .some, p .inside), p .floats, p .small)
@@ -25,7 +26,8 @@ sub-last c = omega (arith, c .before .before .before .pre .some)
 loop-holds : tie.Need-loop-holds Inv-loop μ-loop
 loop-holds c =
     let p = c .before .before .before .pre in
-    let z : c .before .before .before .args .first + 12 * 0 ≡ c .before .before .before .args .first = omega arith in
+    let lowest = c .before .before .before .args .lowest .0 in
+    let z : lowest + 12 * 0 ≡ lowest = omega arith in
     (p, p .some, omega arith, rw z (c .pilot-at .ensures), none-walked)
 
 add-k : tie.Need-add-k Inv-loop μ-loop
@@ -46,8 +48,8 @@ loop-less c = omega arith
 loop-again : tie.Need-loop-again Inv-loop μ-loop
 loop-again c =
     let l = c .before .before .before in
-    let first = l .before .before .before .before .args .first in
-    let at : l .loop .k + 12 ≡ first + 12 * (l .loop .i + 1) = omega (arith, l .loop .inv .2) in
+    let lowest = l .before .before .before .before .args .lowest .0 in
+    let at : l .loop .k + 12 ≡ lowest + 12 * (l .loop .i + 1) = omega (arith, l .loop .inv .2) in
     (l .loop .inv .0, omega arith, at, rw at at (c .before .pilot-at2 .ensures), one-walked (l .loop .inv .4) (l .loop .inv .3) (c .join .ensures))
 
 join-requires-2 : tie.Need-join-requires-2 Inv-loop μ-loop

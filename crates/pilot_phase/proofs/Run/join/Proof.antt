@@ -46,11 +46,12 @@ returns-2 c =
     let on : s .args .self .joined ≡ true = not-false _ (i .if1 .left) in
     let v = of32 (s .args .pilot .value) in
     let size = normed (s .args .pilot) (s .pre) (n .narrow-root .ensures) in
+    let times = m .mul .ensures ∙ ap (product binary32 v) (m .before .conj .ensures) in
     record {
       joined = refl;
       value = refl;
       norm = size;
-      sum = rw on (c .before .before .add .ensures ∙ ap (plus binary32 (of32 (s .args .self .sum))) (m .mul .ensures ∙ ap (product binary32 v) (m .before .conj .ensures)));
+      sum = rw on (c .before .before .add .ensures ∙ ap (plus binary32 (of32 (s .args .self .sum))) times);
       energy = rw on (ap (λ (z : Float). add binary32 (s .args .self .energy) (mul binary32 (s .args .self .norm) z)) size);
     }
 

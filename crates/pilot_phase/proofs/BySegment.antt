@@ -21,7 +21,7 @@ use Rattle.ofdm.specs.Band.{order, placeOf}
 use Rattle.ofdm.specs.Laws.{place-below, segment-of-place, segment-below}
 use Rattle.frame.specs.Roles.{roleByte, placeRole, segmentRoles, wideSegment}
 use Rattle.frame.specs.BySegment.{by-segment}
-use Rattle.pilot_phase.specs.PilotPhase.{pilots}
+use Rattle.pilot_phase.specs.Ballots.{pilots}
 use Rattle.pilot_phase.specs.Inner.{twelfths, somePilots}
 use Rattle.pilot_phase.specs.Pilots.{isPilot, place-pilot, twelves, last-chosen}
 
@@ -31,7 +31,8 @@ none-chosen f k h zero = refl
 none-chosen f k h (suc n) = last-chosen f k n ∙ rw (none-chosen f k h n, h n)
 
 -- where a byte is 1 at each place that leaves a by 12
-spaced : (f : ℕ → ℕ) (k a : ℕ) → a < 12 → ((p : ℕ) → isPilot (f p) ≡ eqb (p % 12) a) → (n : ℕ) → chosen isPilot k (upTo f n) ≡ twelfths (k + a) ((n + 11 - a) / 12)
+spaced : (f : ℕ → ℕ) (k a : ℕ) → a < 12 → ((p : ℕ) → isPilot (f p) ≡ eqb (p % 12) a) → (n : ℕ)
+    → chosen isPilot k (upTo f n) ≡ twelfths (k + a) ((n + 11 - a) / 12)
 spaced f k a h e zero = let z : (0 + 11 - a) / 12 ≡ 0 = omega arith in rw z
 spaced f k a h e (suc n) = last-chosen f k n ∙ rw (spaced f k a h e n, e n) (by (eqb (n % 12) a) refl)
   where
@@ -57,24 +58,25 @@ module _ (mode : Mode) (kinds : List ℕ) (phase : ℕ) where
   pilots-by-segment = by-segment isPilot refl mode phase kinds
 
   module _ (seg : ℕ) where
-    abbrev rule : ℕ → Bool
-    rule p = isPilot (roleByte (placeRole mode (wideSegment kinds seg) phase p))
+    abbrev byte : ℕ → ℕ
+    byte p = roleByte (placeRole mode (wideSegment kinds seg) phase p)
 
-    ruled : (kind : SegmentKind) → kindFrom (getD kinds seg 0) ≡ kind → (p : ℕ) → rule p ≡ isSp kind phase p
+    abbrev from : ℕ
+    from = placeOf seg * carriersPerSegment mode
+
+    ruled : (kind : SegmentKind) → kindFrom (getD kinds seg 0) ≡ kind → (p : ℕ) → isPilot (byte p) ≡ isSp kind phase p
     ruled kind e p = place-pilot mode (wideSegment kinds seg) phase p ∙ ap (λ (z : SegmentKind). isSp z phase p) e
 
     pub coherent-pilots : phase < 4 → kindFrom (getD kinds seg 0) ≡ Coherent
-        → segmentPilots seg ≡ twelfths (placeOf seg * carriersPerSegment mode + 3 * phase) (carriersPerSegment mode / 12)
+        → segmentPilots seg ≡ twelfths (from + 3 * phase) (carriersPerSegment mode / 12)
     unfolding segmentPilots segmentRoles
     coherent-pilots h e =
         let whole : (carriersPerSegment mode + 11 - 3 * phase) / 12 ≡ carriersPerSegment mode / 12 = omega (arith, twelves mode) in
-        rw whole at
-        (spaced (λ p. roleByte (placeRole mode (wideSegment kinds seg) phase p)) (placeOf seg * carriersPerSegment mode) (3 * phase) (omega arith) (ruled Coherent e) (carriersPerSegment mode))
+        rw whole at (spaced byte from (3 * phase) (omega arith) (ruled Coherent e) (carriersPerSegment mode))
 
     pub differential-pilots : kindFrom (getD kinds seg 0) ≡ Differential → segmentPilots seg ≡ []
     unfolding segmentPilots segmentRoles
-    differential-pilots e =
-        none-chosen (λ p. roleByte (placeRole mode (wideSegment kinds seg) phase p)) (placeOf seg * carriersPerSegment mode) (ruled Differential e) (carriersPerSegment mode)
+    differential-pilots e = none-chosen byte from (ruled Differential e) (carriersPerSegment mode)
 
 -- ---- whether there are any
 joined-some : (f : ℕ → List ℕ) (xs : List ℕ) (i : ℕ) → i < length xs → 0 < length (f (getD xs i 0)) → 0 < length (joined f xs)
@@ -91,11 +93,13 @@ module _ (mode : Mode) (kinds : List ℕ) where
   some-pilots seg h e =
       let part = coherent-pilots mode kinds 0 seg (omega arith) (rw (eq-eqb (getD kinds seg 0) 0 e)) in
       let size = ap length part ∙ length-upTo _ (carriersPerSegment mode / 12) in
-      let here : 0 < length (segmentPilots mode kinds 0 (getD order (placeOf seg) 0)) = rw (segment-of-place seg h) (omega (arith, size, sized mode .carriers-low)) in
+      let here : 0 < length (segmentPilots mode kinds 0 (getD order (placeOf seg) 0)) =
+      rw (segment-of-place seg h) (omega (arith, size, sized mode .carriers-low)) in
       let some = joined-some (segmentPilots mode kinds 0) order (placeOf seg) (place-below seg h) here in
       rw (pilots-by-segment mode kinds 0, ne-eqb (length (joined (segmentPilots mode kinds 0) order)) 0 (λ z. omega arith))
 
   pub no-pilots : ((seg : ℕ) → seg < 13 → getD kinds seg 0 ≡ 0 → ⊥) → false ≡ somePilots mode kinds
   no-pilots h =
-      let none = joined-none (segmentPilots mode kinds 0) order (λ i l. differential-pilots mode kinds 0 (getD order i 0) (rw (ne-eqb (getD kinds (getD order i 0) 0) 0 (h (getD order i 0) (segment-below i l))))) in
-      rw (pilots-by-segment mode kinds 0, none)
+      let none : (i : ℕ) → i < length order → segmentPilots mode kinds 0 (getD order i 0) ≡ [] =
+      λ i l. let seg = getD order i 0 in differential-pilots mode kinds 0 seg (rw (ne-eqb (getD kinds seg 0) 0 (h seg (segment-below i l)))) in
+      rw (pilots-by-segment mode kinds 0, joined-none (segmentPilots mode kinds 0) order none)
