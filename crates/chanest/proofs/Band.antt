@@ -21,7 +21,7 @@ use Rattle.ofdm.specs.Band.{segmentAt}
 use Rattle.complex.specs.Complex.{Pair}
 use Rattle.spectra.specs.Spectra.{pairAt}
 use Rattle.chanest.specs.declared.Plan.{Plan}
-use Rattle.chanest.specs.Grid.{segmentPoints, gridPoints, coherentAt, gridPoint, gridOf}
+use Rattle.chanest.specs.Grid.{segmentPoints, gridPoints, coherentAt, valueAt, gridOf}
 use Rattle.chanest.specs.Inner.{Written, Writable, scatteredPoint, continualPoint, gridBy}
 use Rattle.chanest.proofs.Writing.{kept, nothing, together, exchanged, whole}
 use Rattle.chanest.proofs.Points.{pointed, again}
@@ -51,7 +51,7 @@ module _ (plan : Plan) (kinds : List ℕ) (xs entry : List Float) where
   n = segmentPoints (plan .mode)
 
   abbrev pub value : ℕ → Pair
-  value i = gridPoint (plan .mode) kinds xs (plan .win .current) (pairAt entry i) i
+  value i = valueAt (plan .mode) kinds xs (plan .win .current) (pairAt entry i) i
 
   some : 0 < n
   some = omega (arith, sized (plan .mode) .carriers-low)
@@ -68,7 +68,7 @@ module _ (plan : Plan) (kinds : List ℕ) (xs entry : List Float) where
     pick a b = cond a (scatteredPoint plan xs i) (cond b (continualPoint plan xs i) (pairAt entry i))
 
     value-is : value i ≡ pick (coherentAt kinds place) (eqb (i - place * n) 0 && (ltb 0 i && coherentAt kinds (place - 1)))
-    unfolding gridPoint
+    unfolding valueAt
     value-is = λ t. pick (coherentAt kinds (over t)) (eqb (rest t) 0 && (ltb 0 i && coherentAt kinds (over t - 1)))
 
     pub scattered : coherentAt kinds place ≡ true → scatteredPoint plan xs i ≡ value i
@@ -77,10 +77,10 @@ module _ (plan : Plan) (kinds : List ℕ) (xs entry : List Float) where
     module _ (e : coherentAt kinds place ≡ false) where
       -- the lowest point of the place
       lowest : i ≡ place * n → value i ≡ cond (closes kinds place) (continualPoint plan xs i) (pairAt entry i)
-      lowest z = value-is ∙ (λ t. pick (e t) (first t && (sign (decLt 0 place) t && coherentAt kinds (place - 1))))
+      lowest z = value-is ∙ (λ t. pick (e t) (starts t && (sign (decLt 0 place) t && coherentAt kinds (place - 1))))
         where
-          first : eqb (i - place * n) 0 ≡ true
-          first = eq-eqb (i - place * n) 0 (omega arith)
+          starts : eqb (i - place * n) 0 ≡ true
+          starts = eq-eqb (i - place * n) 0 (omega arith)
 
           sign : Dec (0 < place) → ltb 0 i ≡ ltb 0 place
           sign (yes p) =
@@ -119,63 +119,62 @@ module _ (plan : Plan) (kinds : List ℕ) (xs entry : List Float) where
     with-closing {now'} some-more g p =
         together (omega arith) (omega arith) w
         (together (omega arith) (omega arith) (exchanged p (λ i l h. closing place l (omega (arith, some)) e g (omega arith)))
-        (kept value (place * n + 1) (place * n + m) now' (λ i l h. p .above i l ∙ (w .above i (omega arith) ∙ outside place (omega arith) (omega arith) e (λ z. absurd (omega arith))))))
+        (kept value (place * n + 1) (place * n + m) now'
+        (λ i l h.
+        let same = outside place (omega arith) (omega arith) e (λ z. absurd (omega arith)) in
+        p .above i l ∙ (w .above i (omega arith) ∙ same))))
 
   -- ---- the points below a place
-  pub record WrittenTo (c place : ℕ) (below : Bool) (now : List Float) : Type 0 where
-    pub points : c ≡ n
+  pub record WrittenTo (place : ℕ) (below : Bool) (now : List Float) : Type 0 where
     pub passed : place ≤ 13
     pub under : below ≡ closes kinds place
-    pub front : Written value 0 (place * c) entry now
+    pub lower : Written value 0 (place * n) entry now
 
-  pub begin : {c : ℕ} → c ≡ n → WrittenTo c 0 false entry
-  begin {c} e = record { points = e; passed = omega arith; under = refl; front = rw zero-mul (nothing value 0 entry) }
+  pub begin : WrittenTo 0 false entry
+  begin = record { passed = omega arith; under = refl; lower = rw zero-mul (nothing value 0 entry) }
 
-  module _ {c place : ℕ} {below : Bool} {now : List Float} (w : WrittenTo c place below now) where
-    front' : Written value 0 (place * n) entry now
-    front' = rw (w .points) at (w .front)
-
-    next : (place + 1) * c ≡ place * n + n
-    next = rw (w .points) (ap (λ (k : ℕ). k * n) (add-one place) ∙ suc-mul place n)
+  module _ {place : ℕ} {below : Bool} {now : List Float} (w : WrittenTo place below now) where
+    next : (place + 1) * n ≡ place * n + n
+    next = ap (λ (k : ℕ). k * n) (add-one place) ∙ suc-mul place n
 
     pub still : {signs : List ℕ} → Writable plan xs signs entry → Writable plan xs signs now
-    still W = again W now (w .front .size)
+    still W = again W now (w .lower .size)
 
     above-it : (k : ℕ) → closes kinds (k + 1) ≡ coherentAt kinds k
     above-it k = let z : k + 1 - 1 ≡ k = omega arith in λ t. lt-ltb 0 (k + 1) (omega arith) t && coherentAt kinds (z t)
 
-    module _ (h : place < 13) where
-      pub part-ends : place * c + n ≤ 13 * n
-      part-ends = rw (w .points) (rw suc-mul at (mul-le-mul-right n h))
+    -- `from` is the lowest point of the place
+    module _ (h : place < 13) {from : ℕ} (at : from ≡ place * n) where
+      pub part-ends : from + n ≤ 13 * n
+      part-ends = rw at (rw suc-mul at (mul-le-mul-right n h))
 
-      pub again-coherent : {now' : List Float} → coherentAt kinds place ≡ true → Written (scatteredPoint plan xs) (place * c) (place * c + n) now now' → WrittenTo c (place + 1) true now'
+      pub again-coherent : {now' : List Float} → coherentAt kinds place ≡ true → Written (scatteredPoint plan xs) from (from + n) now now'
+          → WrittenTo (place + 1) true now'
       again-coherent e p =
-          let q : Written (scatteredPoint plan xs) (place * n) (place * n + n) now _ = rw (w .points) at p in
+          let q : Written (scatteredPoint plan xs) (place * n) (place * n + n) now _ = rw at at p in
           record {
-            points = w .points;
             passed = omega arith;
             under = sym (above-it place ∙ e);
-            front = rw next (together (omega arith) (omega arith) front' (exchanged q (λ i l b. scattered place l b e)));
+            lower = rw next (together (omega arith) (omega arith) (w .lower) (exchanged q (λ i l b. scattered place l b e)));
           }
 
       module _ (e : coherentAt kinds place ≡ false) where
-        pub again-closed : {now' : List Float} → below ≡ true → Written (continualPoint plan xs) (place * c) (place * c + 1) now now' → WrittenTo c (place + 1) false now'
+        pub again-closed : {now' : List Float} → below ≡ true → Written (continualPoint plan xs) from (from + 1) now now'
+            → WrittenTo (place + 1) false now'
         again-closed b p =
-            let q : Written (continualPoint plan xs) (place * n) (place * n + 1) now _ = rw (w .points) at p in
+            let q : Written (continualPoint plan xs) (place * n) (place * n + 1) now _ = rw at at p in
             record {
-              points = w .points;
               passed = omega arith;
               under = sym (above-it place ∙ e);
-              front = rw next (with-closing place e (omega arith) front' some (sym (w .under) ∙ b) q);
+              lower = rw next (with-closing place e (omega arith) (w .lower) some (sym (w .under) ∙ b) q);
             }
 
-        pub again-open : below ≡ false → WrittenTo c (place + 1) false now
+        pub again-open : below ≡ false → WrittenTo (place + 1) false now
         again-open b =
             record {
-              points = w .points;
               passed = omega arith;
               under = sym (above-it place ∙ e);
-              front = rw next (untouched place e (omega arith) front' (sym (w .under) ∙ b));
+              lower = rw next (untouched place e (omega arith) (w .lower) (sym (w .under) ∙ b));
             }
 
     -- ---- the edge, and the point that is never written
@@ -190,13 +189,16 @@ module _ (plan : Plan) (kinds : List ℕ) (xs entry : List Float) where
           whole size q
 
       at-edge : Written value 0 (13 * n) entry now
-      at-edge = rw last at front'
+      at-edge = rw last at (w .lower)
 
-      pub all-closed : {now' : List Float} → below ≡ true → Written (continualPoint plan xs) (13 * c) (13 * c + 1) now now' → now' ≡ gridBy plan kinds xs entry
-      all-closed b p =
-          let q : Written (continualPoint plan xs) (13 * n) (13 * n + 1) now _ = rw (w .points) at p in
-          grown (with-closing 13 refl (omega (arith, sized (plan .mode) .carriers-low)) at-edge (omega arith) (rw last at (sym (w .under) ∙ b)) q)
+      two : 2 ≤ n
+      two = omega (arith, sized (plan .mode) .carriers-low)
+
+      pub all-closed : {edge : ℕ} {now' : List Float} → edge ≡ 13 * n → below ≡ true → Written (continualPoint plan xs) edge (edge + 1) now now'
+          → now' ≡ gridBy plan kinds xs entry
+      all-closed at b p =
+          let q : Written (continualPoint plan xs) (13 * n) (13 * n + 1) now _ = rw at at p in
+          grown (with-closing 13 refl two at-edge (omega arith) (rw last at (sym (w .under) ∙ b)) q)
 
       pub all-open : below ≡ false → now ≡ gridBy plan kinds xs entry
-      all-open b =
-          grown (untouched 13 refl (omega (arith, sized (plan .mode) .carriers-low)) at-edge (rw last at (sym (w .under) ∙ b)))
+      all-open b = grown (untouched 13 refl two at-edge (rw last at (sym (w .under) ∙ b)))

@@ -9,12 +9,14 @@ use lib.ListN.{length, length-map}
 use lib.Ieee.{Float, binary32, sub, le}
 use Rattle.lists.specs.Select.{length-upTo}
 use Rattle.ieee.specs.Constants.{plusZero}
+use Rattle.ofdm.specs.declared.BandCarrier.{BandCarrier}
 use Rattle.complex.specs.Complex.{Pair, plus, scaled, divided}
+use Rattle.chanest.specs.declared.Window.{Window}
 use Rattle.chanest.specs.declared.Sent.{Sent}
 use Rattle.chanest.specs.declared.Times.{Times}
 use Rattle.chanest.specs.Line.{Point, xsOf, valuesOf, meanPair, slopeSum, atZero, fitted, lineAtZero}
 use Rattle.chanest.specs.Window.{carrierIn, offsetOf, pointsIn, estimateOf}
-use Rattle.chanest.specs.Inner.{spectraOf, valueIn, Timed}
+use Rattle.chanest.specs.Inner.{spectrumOf, spectraOf, valueIn, Timed}
 
 two-more : (none : Pair) (ps : List Point) → 1 < length ps → lineAtZero none ps ≡ fitted ps
 unfolding lineAtZero
@@ -22,49 +24,51 @@ two-more none [] h = absurd (omega arith)
 two-more none (p ∷ []) h = absurd (omega arith)
 two-more none (p ∷ q ∷ ps) h = refl
 
-module _ (len : ℕ) (xs : List Float) (t k : ℕ) (inverse : Float) where
+module _ (win : Window) (xs : List Float) (k : BandCarrier) (inverse : Float) where
   -- the offsets of the points, their values, and how many there are
   module _ (ss : List ℕ) where
-    xs-in : xsOf (pointsIn len xs t k inverse ss) ≡ map (offsetOf t) ss
+    xs-in : xsOf (pointsIn win xs k inverse ss) ≡ map (offsetOf win) ss
     unfolding pointsIn
     xs-in = map-map _ _ ss
 
-    values-in : valuesOf (pointsIn len xs t k inverse ss) ≡ map (valueIn len xs k inverse) ss
+    values-in : valuesOf (pointsIn win xs k inverse ss) ≡ map (valueIn win xs k inverse) ss
     unfolding pointsIn
     values-in = map-map _ _ ss
 
-    length-in : length (pointsIn len xs t k inverse ss) ≡ length ss
+    length-in : length (pointsIn win xs k inverse ss) ≡ length ss
     unfolding pointsIn
     length-in = length-map ss _
 
-  pub none-is : (s : Sent) → s .count ≡ 0 → estimateOf len xs t k inverse (spectraOf s) ≡ carrierIn len xs k t
+  pub none-is : (s : Sent) → s .count ≡ 0 → estimateOf win xs k inverse (spectraOf s) ≡ carrierIn win xs k (win .current .index)
   unfolding estimateOf pointsIn lineAtZero
   none-is s e = rw e
 
-  pub one-is : (s : Sent) → s .count ≡ 1 → estimateOf len xs t k inverse (spectraOf s) ≡ valueIn len xs k inverse (s .first)
+  pub one-is : (s : Sent) → s .count ≡ 1 → estimateOf win xs k inverse (spectraOf s) ≡ valueIn win xs k inverse (s .first)
   unfolding estimateOf pointsIn lineAtZero
   one-is s e = let f : s .first + s .step * 0 ≡ s .first = omega arith in rw (e, f)
 
-  module _ (r : Times) (h : 1 < r .sent .count) (timed : Timed t r) (vm : Pair)
-      (m : vm ≡ meanPair (map (valueIn len xs k inverse) (spectraOf (r .sent)))) where
+  module _ (r : Times) (h : 1 < r .sent .count) (timed : Timed win r) (vm : Pair)
+      (m : vm ≡ meanPair (map (valueIn win xs k inverse) (spectraOf (r .sent)))) where
     line : Pair
-    line = cond (le (r .spread) (plusZero binary32)) vm (atZero (r .mean) vm (r .spread) (slopeSum (r .mean) vm (pointsIn len xs t k inverse (spectraOf (r .sent)))))
+    line =
+        cond (le (r .spread) (plusZero binary32)) vm
+        (atZero (r .mean) vm (r .spread) (slopeSum (r .mean) vm (pointsIn win xs k inverse (spectraOf (r .sent)))))
 
-    line-is : estimateOf len xs t k inverse (spectraOf (r .sent)) ≡ line
+    line-is : estimateOf win xs k inverse (spectraOf (r .sent)) ≡ line
     unfolding estimateOf fitted line
     line-is =
         let ss = spectraOf (r .sent) in
-        two-more _ _ (rw (length-in ss, length-upTo (λ i. r .sent .first + r .sent .step * i) (r .sent .count)) h)
+        two-more _ _ (rw (length-in ss, length-upTo (spectrumOf (r .sent)) (r .sent .count)) h)
         ∙ rw (xs-in ss, values-in ss, m, timed .width, timed .middle)
 
-    pub flat-is : le (r .spread) (plusZero binary32) ≡ true → estimateOf len xs t k inverse (spectraOf (r .sent)) ≡ vm
+    pub flat-is : le (r .spread) (plusZero binary32) ≡ true → estimateOf win xs k inverse (spectraOf (r .sent)) ≡ vm
     unfolding line
     flat-is e = line-is ∙ rw e
 
     -- the calls compute the line at 0
     pub at-zero-is : le (r .spread) (plusZero binary32) ≡ false → (sum slope back v : Pair)
-        → sum ≡ slopeSum (r .mean) vm (pointsIn len xs t k inverse (spectraOf (r .sent))) → slope ≡ divided binary32 sum (r .spread)
+        → sum ≡ slopeSum (r .mean) vm (pointsIn win xs k inverse (spectraOf (r .sent))) → slope ≡ divided binary32 sum (r .spread)
         → back ≡ scaled binary32 slope (sub binary32 (plusZero binary32) (r .mean)) → v ≡ plus binary32 vm back
-        → v ≡ estimateOf len xs t k inverse (spectraOf (r .sent))
+        → v ≡ estimateOf win xs k inverse (spectraOf (r .sent))
     unfolding line
     at-zero-is e sum slope back v p q b w = rw (line-is, e, w, b, q, p)

@@ -2,7 +2,6 @@
 pub mod Searching
 pub mod Summing
 pub mod Carriers
-pub mod PairSums
 pub mod Fitted
 pub mod Writing
 pub mod Points

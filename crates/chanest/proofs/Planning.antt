@@ -17,15 +17,15 @@ use Rattle.chanest.specs.declared.Current.{Current}
 use Rattle.chanest.specs.declared.Window.{Window}
 use Rattle.chanest.specs.declared.Plan.{Plan}
 use Rattle.chanest.specs.Grid.{windowCode, atLeastOne, grid}
-use Rattle.chanest.specs.Inner.{Usable, Planned, Spanned, Writable, gridBy}
+use Rattle.chanest.specs.Inner.{Counted, Usable, Planned, Spanned, Writable, gridBy}
 use Rattle.chanest.specs.Codes.{Accepted, accepted}
 
-at-least : (current : Current) → current .w ≤ 64 → (0 < atLeastOne current .w) × (atLeastOne current .w ≤ 64)
+at-least : (current : Current) → current .w ≤ 64 → Counted (atLeastOne current)
 at-least current h = by (decLt 0 (current .w))
   where
-    by : Dec (0 < current .w) → (0 < atLeastOne current .w) × (atLeastOne current .w ≤ 64)
-    by (yes p) = rw (ne-eqb (current .w) 0 (λ e. omega arith)) (p, h)
-    by (no p) = rw (eq-eqb (current .w) 0 (omega arith)) (omega arith, omega arith)
+    by : Dec (0 < current .w) → Counted (atLeastOne current)
+    by (yes p) = let e = ne-eqb (current .w) 0 (λ z. omega arith) in record { wide = rw e p; short = rw e h }
+    by (no p) = let e = eq-eqb (current .w) 0 (omega arith) in record { wide = rw e (omega arith); short = rw e (omega arith) }
 
 -- k carriers a spectrum
 module _ (mode : Mode) (xs : List Float) (current : Current) (out : List Float) (z : windowCode mode (length xs) current (length out) ≡ 0)
@@ -41,8 +41,7 @@ module _ (mode : Mode) (xs : List Float) (current : Current) (out : List Float) 
       record {
         current = rw (e, size) (a .inside);
         few = rw size (a .few);
-        wide = rw e (at-least current (a .short) .0);
-        short = rw e (at-least current (a .short) .1);
+        counted = rw e (at-least current (a .short));
       }
 
   spanned : Spanned win (length xs)
@@ -57,15 +56,11 @@ module _ (mode : Mode) (xs : List Float) (current : Current) (out : List Float) 
       }
 
   module _ {plan : Plan} (p : Planned mode win plan) where
-    band : k ≡ totalCarriers (plan .mode)
-    band = size ∙ sym (ap totalCarriers (p .same-mode))
-
     pub writable : {signs : List ℕ} → signs ≡ bandSigns mode → Writable plan xs signs out
     writable s =
         record {
           phase = rw (p .same-window, e) (a .cycle);
-          len = ap (λ (v : Window). v .len) (p .same-window) ∙ band;
-          count = ap (λ (v : Window). v .count) (p .same-window) ∙ ap (λ (j : ℕ). length xs / (2 * j)) band;
+          window = rw (p .same-window, p .same-mode, size);
           spanned = rw (p .same-window) spanned;
           signed = rw (p .same-mode) s;
           scattered = rw (p .same-window) (p .scattered);

@@ -2,29 +2,35 @@
 -- Assumes nothing.
 use Prim.Native.Nat.{ℕ, suc, _+_, _-_, _*_, _/_, _≤_, _<_}
 use mathlib.Core.Logic.{_⊎_, ⊎-elim}
+use mathlib.Core.Path.{_≡_}
 use native.Mathlib.Nat.{mul-le-mul-left, lt-mul-div-succ, mul-div-le, div-le-self}
 use native.Mathlib.Omega.{arith}
 use mir.Syntax.{w64}
 use mir.Val.{Fits}
+use Rattle.chanest.specs.declared.Window.{Window}
+use Rattle.chanest.specs.declared.Offsets.{Offsets}
 use Rattle.chanest.specs.declared.Sent.{Sent}
-use Rattle.chanest.specs.Inner.{Inside, Searchable, Reached}
+use Rattle.chanest.specs.Window.{scatteredOffsets, continualOffsets}
+use Rattle.chanest.specs.Inner.{Inside, Usable, Searchable, Reached}
 use Rattle.chanest.specs.Reaching.{Met, window}
 
 pub room-fits : (x step : ℕ) → x < 1024 → Fits w64 (x / step + 1)
 room-fits x step h = omega (arith, div-le-self x step)
 
 -- ---- the offsets before the window
-pub record Skipped (t before step s : ℕ) : Type 0 where
-  pub ahead : (i : ℕ) → i < s → t + step * i < before
-  pub covered : before ≤ t + step * s
-  pub near : step * s ≤ before + step
+pub record Skipped (win : Window) (o : Offsets) (s : ℕ) : Type 0 where
+  pub ahead : (i : ℕ) → i < s → win .current .index + o .step * i < o .before
+  pub covered : o .before ≤ win .current .index + o .step * s
+  pub near : o .step * s ≤ o .before + o .step
 
-pub skip-none : (t before step : ℕ) → before ≤ t → Skipped t before step 0
-skip-none t before step h = record { ahead = λ i l. absurd (omega arith); covered = omega arith; near = omega arith }
+pub skip-none : (win : Window) (o : Offsets) → o .before ≤ win .current .index → Skipped win o 0
+skip-none win o h = record { ahead = λ i l. absurd (omega arith); covered = omega arith; near = omega arith }
 
-pub skip-some : (t before step : ℕ) → 0 < step → t < before → Skipped t before step ((before - t + step - 1) / step)
-skip-some t before step p h =
-    let x : ℕ = before - t + step - 1 in
+pub skip-some : (win : Window) (o : Offsets) → 0 < o .step → win .current .index < o .before
+    → Skipped win o ((o .before - win .current .index + o .step - 1) / o .step)
+skip-some win o p h =
+    let step = o .step in
+    let x : ℕ = o .before - win .current .index + step - 1 in
     let l : x < step * (x / step + 1) = lt-mul-div-succ x p in
     let u : step * (x / step) ≤ x = mul-div-le x step in
     record {
@@ -37,17 +43,20 @@ skip-some t before step p h =
 abbrev sentFrom : ℕ → ℕ → ℕ → Sent
 sentFrom first step m = record { first = first; step = step; count = m }
 
-module _ (n t before step count : ℕ) (h : Searchable n t before step count) where
-  met : (first s m : ℕ) → Met n t before step count first s m → m ≤ n → first ≤ n → Reached n t before step count (sentFrom first step m)
+module _ (win : Window) (o : Offsets) (h : Searchable win o) where
+  abbrev t : ℕ
+  t = win .current .index
+
+  met : (first s m : ℕ) → Met win o first s m → m ≤ win .count → first ≤ win .count → Reached win o (sentFrom first (o .step) m)
   met first s m r l f =
       record {
-        spectra = window n t before step count first s m r (h .current);
+        spectra = window win o first s m r (h .current);
         inside = record { inside = r .inside; few = l; start = f; near = h .near };
       }
 
   -- none in the window: s offsets before it, the others behind it
-  none : (s : ℕ) → s ≤ count → ((i : ℕ) → i < s → t + step * i < before) → ((i : ℕ) → s ≤ i → i < count → n + before ≤ t + step * i)
-      → Reached n t before step count (sentFrom 0 step 0)
+  none : (s : ℕ) → s ≤ o .count → ((i : ℕ) → i < s → t + o .step * i < o .before)
+      → ((i : ℕ) → s ≤ i → i < o .count → win .count + o .before ≤ t + o .step * i) → Reached win o (sentFrom 0 (o .step) 0)
   none s l a b =
       met 0 s 0
       (record {
@@ -59,19 +68,22 @@ module _ (n t before step count : ℕ) (h : Searchable n t before step count) wh
       })
       (omega arith) (omega arith)
 
-  module _ (s : ℕ) (k : Skipped t before step s) where
-    pub all-before : count ≤ s → Reached n t before step count (sentFrom 0 step 0)
-    all-before l = none count (omega arith) (λ i p. k .ahead i (omega arith)) (λ i p q. absurd (omega arith))
+  module _ (s : ℕ) (k : Skipped win o s) where
+    pub all-before : o .count ≤ s → Reached win o (sentFrom 0 (o .step) 0)
+    all-before l = none (o .count) (omega arith) (λ i p. k .ahead i (omega arith)) (λ i p q. absurd (omega arith))
 
-    pub all-behind : s < count → n ≤ t + step * s - before → Reached n t before step count (sentFrom 0 step 0)
-    all-behind l b = none s (omega arith) (k .ahead) (λ i p q. omega (arith, mul-le-mul-left step p, k .covered, h .current))
+    pub all-behind : s < o .count → win .count ≤ t + o .step * s - o .before → Reached win o (sentFrom 0 (o .step) 0)
+    all-behind l b = none s (omega arith) (k .ahead) (λ i p q. omega (arith, mul-le-mul-left (o .step) p, k .covered, h .current))
 
     -- m of them: as many as there are, or as the window has room for
-    pub some-inside : (m : ℕ) → s < count → t + step * s - before < n → m ≤ count - s → m ≤ (n - 1 - (t + step * s - before)) / step + 1
-        → (count - s ≤ m) ⊎ ((n - 1 - (t + step * s - before)) / step + 1 ≤ m) → Reached n t before step count (sentFrom (t + step * s - before) step m)
+    pub some-inside : (m : ℕ) → s < o .count → t + o .step * s - o .before < win .count → m ≤ o .count - s
+        → m ≤ (win .count - 1 - (t + o .step * s - o .before)) / o .step + 1
+        → (o .count - s ≤ m) ⊎ ((win .count - 1 - (t + o .step * s - o .before)) / o .step + 1 ≤ m)
+        → Reached win o (sentFrom (t + o .step * s - o .before) (o .step) m)
     some-inside m l b u v w =
-        let first : ℕ = t + step * s - before in
-        let x : ℕ = n - 1 - first in
+        let step = o .step in
+        let first : ℕ = t + step * s - o .before in
+        let x : ℕ = win .count - 1 - first in
         let fit : step * (x / step) ≤ x = mul-div-le x step in
         let full : x < step * (x / step + 1) = lt-mul-div-succ x (h .forward) in
         met first s m
@@ -87,6 +99,32 @@ module _ (n t before step count : ℕ) (h : Searchable n t before step count) wh
               w;
         })
         (omega (arith, div-le-self x step)) (omega arith)
+
+-- ---- the offsets of an accepted call can be looked for
+module _ (win : Window) (h : Usable win) where
+  pub scattered-searchable : {back : ℕ} {o : Offsets} → back < 4 → o ≡ scatteredOffsets (win .current) back → Searchable win o
+  scattered-searchable l e =
+      rw e
+      (record {
+        current = h .current;
+        few = h .few;
+        forward = omega arith;
+        near = omega arith;
+        early = omega (arith, h .counted .short);
+        short = omega (arith, h .counted .short);
+      })
+
+  pub continual-searchable : {o : Offsets} → o ≡ continualOffsets (win .current) → Searchable win o
+  continual-searchable e =
+      rw e
+      (record {
+        current = h .current;
+        few = h .few;
+        forward = omega arith;
+        near = omega arith;
+        early = omega (arith, h .counted .short);
+        short = omega (arith, h .counted .short);
+      })
 
 -- ---- spectra of a window lie within any larger one
 pub inside-larger : (m n : ℕ) (s : Sent) → m ≤ n → Inside m s → Inside n s

@@ -3,13 +3,12 @@
 -- Assumes nothing.
 use Prim.Native.Nat.{ℕ, _+_, _-_, _*_, _/_, _%_, _≤_, _<_}
 use mathlib.Core.Bool.{Bool, true, false, cond, _&&_, _||_}
-use mathlib.Core.List.{List, []}
+use mathlib.Core.List.{List, [], List·Memᴰ}
 use mathlib.Core.Path.{_≡_, refl, sym, ap, _∙_}
 use native.Mathlib.Omega.{arith}
 use native.Mathlib.Decide.{decLt}
 use borrow.Author.Tests.{eqb-true, ltb-true, eq-eqb, ne-eqb, lt-ltb, le-ltb}
 use lib.Dec.{eqb, ltb, lit<}
-use lib.IntN.{ℤ}
 use lib.ListN.{getD, length}
 use lib.Ieee.{Float}
 use Rattle.lists.specs.Tests.{agree, both-left, both-right}
@@ -20,11 +19,12 @@ use Rattle.params.specs.declared.Mode.the-variants.{M1, M2, M3}
 use Rattle.params.specs.declared.ModeNumber.{ModeNumber}
 use Rattle.params.specs.declared.ModeNumber.the-variants.{Known, Unknown}
 use Rattle.params.specs.declared.SegmentKind.the-variants.{Coherent, Differential}
-use Rattle.params.specs.Params.{carriersPerSegment, totalCarriers}
+use Rattle.params.specs.Params.{carriersPerSegment}
+use Rattle.ofdm.specs.declared.BandCarrier.{BandCarrier}
 use Rattle.ofdm.specs.Band.{segmentAt}
 use Rattle.ofdm.specs.Laws.{segment-below}
 use Rattle.complex.specs.Complex.{Pair}
-use Rattle.spectra.specs.Spectra.{pairAt, spectraIn}
+use Rattle.spectra.specs.Spectra.{pairAt}
 use Rattle.spectra.specs.Flat.{length-flat, pair-flat, flat-own}
 use Rattle.frame.specs.declared.CarrierRole.the-variants.{Sp, Cp, EdgeCp}
 use Rattle.frame.specs.Operations.{areKinds}
@@ -32,9 +32,13 @@ use Rattle.frame.specs.Roles.{OfdmSegment, roleByte, placeRole, bandRoles, wide
 use Rattle.frame.specs.Rules.{segmentIn}
 use Rattle.frame.specs.OneRole.{map-says}
 use Rattle.chanest.specs.declared.Current.{Current}
+use Rattle.chanest.specs.declared.Window.{Window}
+use Rattle.chanest.specs.declared.Offsets.{Offsets}
 use Rattle.chanest.specs.Line.{lineAtZero}
-use Rattle.chanest.specs.Window.{inWindow, carrierIn, pointsIn, estimateOf}
-use Rattle.chanest.specs.Grid.{estimateAt, windowCode, segmentPoints, gridPoints, coherentAt, isScattered, isClosing, backOf, scatteredAt, continualAt, gridPoint, gridOf, atLeastOne, grid, gridCode, gridLeaves}
+use Rattle.chanest.specs.Window.{scatteredOffsets, inWindow, phaseIn, carrierIn, pointsIn, estimateOf}
+use Rattle.chanest.specs.Grid.{carrierOf, segmentPoints, gridPoints, coherentAt, isScattered, isClosing, backOf, windowOf}
+use Rattle.chanest.specs.Grid.{estimateAt, scatteredAt, continualAt, valueAt, gridOf, atLeastOne, grid, windowCode, gridCode, gridLeaves}
+use Rattle.chanest.specs.Reaching.{in-window}
 use Rattle.chanest.specs.Codes.{accepted}
 
 no-closing : (a b c : Bool) → c ≡ false → (a && (b && c)) ≡ false
@@ -79,12 +83,12 @@ module _ (m : Mode) (kinds : List ℕ) (xs : List Float) (current : Current) (ol
   unfolding gridOf
   given-length = length-flat _ ∙ ap (λ (n : ℕ). 2 * n) (length-upTo _ (gridPoints m))
 
-  given-at : (i : ℕ) → i < gridPoints m → pairAt given i ≡ gridPoint m kinds xs (atLeastOne current) (pairAt old i) i
+  given-at : (i : ℕ) → i < gridPoints m → pairAt given i ≡ valueAt m kinds xs (atLeastOne current) (pairAt old i) i
   unfolding gridOf
   given-at i h = pair-flat _ (gridPoints m) i h
 
-  point-kept : (v : Pair) (i : ℕ) → isScattered m kinds i ≡ false → isClosing m kinds i ≡ false → gridPoint m kinds xs (atLeastOne current) v i ≡ v
-  unfolding gridPoint
+  point-kept : (v : Pair) (i : ℕ) → isScattered m kinds i ≡ false → isClosing m kinds i ≡ false → valueAt m kinds xs (atLeastOne current) v i ≡ v
+  unfolding valueAt
   point-kept v i s c = rw (s, c)
 
   -- the grid keeps its length
@@ -98,11 +102,11 @@ module _ (m : Mode) (kinds : List ℕ) (xs : List Float) (current : Current) (ol
 
     -- the others hold what their pilots give
     pub scattered-written : Accepted → isScattered m kinds i ≡ true → pairAt left i ≡ scatteredAt m xs (atLeastOne current) i
-    unfolding gridPoint
+    unfolding valueAt
     scattered-written a s = ap (λ (z : List Float). pairAt z i) (left-given a) ∙ (given-at i h ∙ rw s)
 
     pub closing-written : Accepted → isScattered m kinds i ≡ false → isClosing m kinds i ≡ true → pairAt left i ≡ continualAt m xs (atLeastOne current) i
-    unfolding gridPoint
+    unfolding valueAt
     closing-written a s c = ap (λ (z : List Float). pairAt z i) (left-given a) ∙ (given-at i h ∙ rw (s, c))
 
   -- where no segment is coherent, the grid is bit for bit what was lent
@@ -111,7 +115,7 @@ module _ (m : Mode) (kinds : List ℕ) (xs : List Float) (current : Current) (ol
   none-coherent none =
       either (λ z. z ≡ old) (λ a. sym (flat-own _ (gridPoints m) old (whole a) (λ i h. sym (unchanged i)))) refl
     where
-      unchanged : (i : ℕ) → gridPoint m kinds xs (atLeastOne current) (pairAt old i) i ≡ pairAt old i
+      unchanged : (i : ℕ) → valueAt m kinds xs (atLeastOne current) (pairAt old i) i ≡ pairAt old i
       unchanged i =
           point-kept (pairAt old i) i (none (i / segmentPoints m))
           (no-closing (eqb (i % segmentPoints m) 0) (ltb 0 i) _ (none (i / segmentPoints m - 1)))
@@ -133,11 +137,10 @@ window-of-0 Unknown kinds xs phase index old = refl
 window-of-0 (Known m) kinds xs phase index old = refl
 
 -- where no spectrum of the window has a carrier's pilot, the carrier is taken as the current spectrum has it, sign and all
-pub raw-taken : (m : Mode) (xs : List Float) (current : Current) (k : ℕ) (ds : List ℤ)
-    → inWindow (spectraIn (totalCarriers m) (length xs)) (current .index) ds ≡ []
-    → estimateAt m xs current k ds ≡ carrierIn (totalCarriers m) xs k (current .index)
+pub raw-taken : (m : Mode) (xs : List Float) (current : Current) (k : BandCarrier) (o : Offsets) → inWindow (windowOf m xs current) o ≡ []
+    → estimateAt m xs current k o ≡ carrierIn (windowOf m xs current) xs k (current .index)
 unfolding estimateAt estimateOf pointsIn lineAtZero
-raw-taken m xs current k ds e = rw e
+raw-taken m xs current k o e = rw e
 
 -- what pilots give depends on nothing that was lent
 pub same-written : (m : Mode) (kinds : List ℕ) (xs : List Float) (current : Current) (old other : List Float) (i : ℕ) → i < gridPoints m
@@ -157,7 +160,7 @@ same-written m kinds xs current old other i h l a s = by (isScattered m kinds i)
 -- how points and carriers hang together
 record Placed (m : Mode) (i : ℕ) : Type 0 where
   carriers : carriersPerSegment m ≡ 3 * segmentPoints m
-  place : 3 * i / carriersPerSegment m ≡ i / segmentPoints m
+  same-place : 3 * i / carriersPerSegment m ≡ i / segmentPoints m
   in-phase : 3 * i % carriersPerSegment m % 12 ≡ 3 * (i % 4)
   lowest : i % segmentPoints m ≡ 0 → 3 * i % carriersPerSegment m ≡ 0
   inside : i / segmentPoints m < 13 → i < 13 * segmentPoints m
@@ -165,9 +168,36 @@ record Placed (m : Mode) (i : ℕ) : Type 0 where
   closes : i % segmentPoints m ≡ 0 → i / segmentPoints m - 1 < 13 → i ≤ 13 * segmentPoints m
 
 placed : (m : Mode) (i : ℕ) → Placed m i
-placed M1 i = record { carriers = refl; place = omega arith; in-phase = omega arith; lowest = λ h. omega arith; inside = λ h. omega arith; below = λ h. omega arith; closes = λ h l. omega arith }
-placed M2 i = record { carriers = refl; place = omega arith; in-phase = omega arith; lowest = λ h. omega arith; inside = λ h. omega arith; below = λ h. omega arith; closes = λ h l. omega arith }
-placed M3 i = record { carriers = refl; place = omega arith; in-phase = omega arith; lowest = λ h. omega arith; inside = λ h. omega arith; below = λ h. omega arith; closes = λ h l. omega arith }
+placed M1 i =
+    record {
+      carriers = refl;
+      same-place = omega arith;
+      in-phase = omega arith;
+      lowest = λ h. omega arith;
+      inside = λ h. omega arith;
+      below = λ h. omega arith;
+      closes = λ h l. omega arith;
+    }
+placed M2 i =
+    record {
+      carriers = refl;
+      same-place = omega arith;
+      in-phase = omega arith;
+      lowest = λ h. omega arith;
+      inside = λ h. omega arith;
+      below = λ h. omega arith;
+      closes = λ h l. omega arith;
+    }
+placed M3 i =
+    record {
+      carriers = refl;
+      same-place = omega arith;
+      in-phase = omega arith;
+      lowest = λ h. omega arith;
+      inside = λ h. omega arith;
+      below = λ h. omega arith;
+      closes = λ h l. omega arith;
+    }
 
 segment-in : (kinds : List ℕ) (place : ℕ) → place < 13 → segmentIn (wide kinds) place ≡ wideSegment kinds (segmentAt place)
 segment-in kinds place h = agree (segmentIn (wide kinds)) (λ p. wideSegment kinds (segmentAt p)) 13 refl place h
@@ -190,7 +220,7 @@ module _ (m : Mode) (kinds : List ℕ) (i : ℕ) where
   segment-byte phase h =
       let q = placed m i in
       map-says m phase (wide kinds) (3 * i) (omega (arith, q .carriers))
-      ∙ rw (ne-eqb (3 * i) (13 * carriersPerSegment m) (λ e. omega (arith, q .carriers)), q .place, segment-in kinds _ (q .below h))
+      ∙ rw (ne-eqb (3 * i) (13 * carriersPerSegment m) (λ e. omega (arith, q .carriers)), q .same-place, segment-in kinds _ (q .below h))
 
   edge-byte : (phase : ℕ) → i ≡ 13 * segmentPoints m → getD (bandRoles m phase (wide kinds)) (3 * i) 0 ≡ roleByte EdgeCp
   edge-byte phase h =
@@ -201,14 +231,18 @@ module _ (m : Mode) (kinds : List ℕ) (i : ℕ) where
   -- a point of a coherent segment is a scattered pilot, in the symbols of phase i mod 4
   pub scattered-role : isScattered m kinds i ≡ true → getD (bandRoles m (i % 4) (wide kinds)) (3 * i) 0 ≡ roleByte Sp
   scattered-role s =
-      let place = ltb-true _ _ (both-left (ltb (i / segmentPoints m) 13) _ s) in
+      let within = ltb-true _ _ (both-left (ltb (i / segmentPoints m) 13) _ s) in
       let kind : segment .kind ≡ Coherent = rw (both-right (ltb (i / segmentPoints m) 13) _ s) in
-      segment-byte (i % 4) (placed m i .inside place) ∙ ap roleByte (sp-role m segment (i % 4) _ kind (placed m i .in-phase))
+      segment-byte (i % 4) (placed m i .inside within) ∙ ap roleByte (sp-role m segment (i % 4) _ kind (placed m i .in-phase))
 
-  -- and so it is sent in every spectrum s at one of its offsets from spectrum t, which has the phase `phase`
-  pub scattered-sent : isScattered m kinds i ≡ true → (phase t w j s p : ℕ) → phase < 4 → p < 4
-      → s + (4 * (w - 1) + backOf phase i) ≡ t + 4 * j → (p + t) % 4 ≡ (phase + s) % 4 → getD (bandRoles m p (wide kinds)) (3 * i) 0 ≡ roleByte Sp
-  scattered-sent c phase t w j s p h l o e = let q : p ≡ i % 4 = omega arith in rw q (scattered-role c)
+  -- and so it is one in every spectrum that its estimate reads: in each that the window has at its offsets, at that symbol's own phase
+  pub scattered-sent : isScattered m kinds i ≡ true → (win : Window) → win .current .phase < 4
+      → (s : ℕ) → List·Memᴰ s (inWindow win (scatteredOffsets (win .current) (backOf (win .current) i)))
+      → getD (bandRoles m (phaseIn (win .current) s) (wide kinds)) (carrierOf i .0) 0 ≡ roleByte Sp
+  scattered-sent c win h s l =
+      let r = in-window win _ s l in
+      let q : phaseIn (win .current) s ≡ i % 4 = omega (arith, r .at) in
+      rw q (scattered-role c)
 
   -- a closing point is a continual pilot in every symbol: of the segment above, or the edge
   pub closing-role : isScattered m kinds i ≡ false → isClosing m kinds i ≡ true → (phase : ℕ)

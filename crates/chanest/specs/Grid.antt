@@ -6,7 +6,6 @@ use mathlib.Core.Bool.{Bool, cond, _&&_}
 use mathlib.Core.List.{List}
 use mathlib.Core.Path.{_≡_}
 use lib.Dec.{eqb, leb, ltb}
-use lib.IntN.{ℤ}
 use lib.ListN.{getD, length}
 use lib.Ieee.{Float, binary32, div, ofBits}
 use Rattle.lists.specs.Lists.{upTo}
@@ -15,15 +14,21 @@ use Rattle.params.specs.declared.Mode.{Mode}
 use Rattle.params.specs.declared.ModeNumber.{ModeNumber}
 use Rattle.params.specs.declared.ModeNumber.the-variants.{Known, Unknown}
 use Rattle.params.specs.Params.{carriersPerSegment, totalCarriers}
+use Rattle.ofdm.specs.declared.BandCarrier.{BandCarrier}
 use Rattle.ofdm.specs.Band.{segmentAt}
 use Rattle.complex.specs.Complex.{Pair}
 use Rattle.spectra.specs.Spectra.{pairAt, flat, spectraIn, spectraCode}
 use Rattle.prbs.specs.Signs.{bandSigns, pilotValue}
 use Rattle.frame.specs.Operations.{areKinds}
 use Rattle.chanest.specs.declared.Current.{Current}
+use Rattle.chanest.specs.declared.Window.{Window}
+use Rattle.chanest.specs.declared.Offsets.{Offsets}
 use Rattle.chanest.specs.Window.{scatteredOffsets, continualOffsets, inWindow, estimateOf}
 
 -- ---- where the points lie: point i is carrier 3 i
+abbrev pub carrierOf : ℕ → BandCarrier
+carrierOf i = record { 0 = 3 * i }
+
 -- how many points a segment has, and the lent grid
 abbrev pub segmentPoints : Mode → ℕ
 segmentPoints mode = carriersPerSegment mode / 3
@@ -44,34 +49,38 @@ isClosing mode kinds i = eqb (i % segmentPoints mode) 0 && (ltb 0 i && coherentA
 
 -- ---- the estimates
 -- the symbols since carrier 3 i last had its scattered pilot
-abbrev pub backOf : ℕ → ℕ → ℕ
-backOf phase i = (phase + 4 - i % 4) % 4
+abbrev pub backOf : Current → ℕ → ℕ
+backOf current i = (current .phase + 4 - i % 4) % 4
 
 -- 1.0 divided by the pilot of a sign
 abbrev pub inverseOf : ℕ → Float
 inverseOf sign = div binary32 (ofBits binary32 0x3f80_0000) (pilotValue sign .re)
 
--- carrier k, whose pilot is sent at the offsets ds from the current symbol
-unfoldable pub estimateAt : Mode → List Float → Current → ℕ → List ℤ → Pair
-estimateAt mode xs current k ds =
-    let len = totalCarriers mode in
-    let t = current .index in
-    estimateOf len xs t k (inverseOf (getD (bandSigns mode) k 0)) (inWindow (spectraIn len (length xs)) t ds)
+-- the window that xs are
+abbrev pub windowOf : Mode → List Float → Current → Window
+windowOf mode xs current = record { len = totalCarriers mode; count = spectraIn (totalCarriers mode) (length xs); current = current }
+
+-- carrier k, whose pilot is sent at the offsets o from the current symbol
+unfoldable pub estimateAt : Mode → List Float → Current → BandCarrier → Offsets → Pair
+estimateAt mode xs current k o =
+    let win = windowOf mode xs current in
+    estimateOf win xs k (inverseOf (getD (bandSigns mode) (k .0) 0)) (inWindow win o)
 
 -- point i by its scattered pilots, and by its continual pilot
 abbrev pub scatteredAt : Mode → List Float → Current → ℕ → Pair
-scatteredAt mode xs current i = estimateAt mode xs current (3 * i) (scatteredOffsets (current .w) (backOf (current .phase) i))
+scatteredAt mode xs current i = estimateAt mode xs current (carrierOf i) (scatteredOffsets current (backOf current i))
 
 abbrev pub continualAt : Mode → List Float → Current → ℕ → Pair
-continualAt mode xs current i = estimateAt mode xs current (3 * i) (continualOffsets (current .w))
+continualAt mode xs current i = estimateAt mode xs current (carrierOf i) (continualOffsets current)
 
-unfoldable pub gridPoint : Mode → List ℕ → List Float → Current → Pair → ℕ → Pair
-gridPoint mode kinds xs current old i =
+-- what the grid holds at point i, where `old` was lent
+unfoldable pub valueAt : Mode → List ℕ → List Float → Current → Pair → ℕ → Pair
+valueAt mode kinds xs current old i =
     cond (isScattered mode kinds i) (scatteredAt mode xs current i)
     (cond (isClosing mode kinds i) (continualAt mode xs current i) old)
 
 unfoldable pub gridOf : Mode → List ℕ → List Float → Current → List Float → List Float
-gridOf mode kinds xs current old = flat (upTo (λ i. gridPoint mode kinds xs current (pairAt old i) i) (gridPoints mode))
+gridOf mode kinds xs current old = flat (upTo (λ i. valueAt mode kinds xs current (pairAt old i) i) (gridPoints mode))
 
 -- a time window of 0 counts as 1
 abbrev pub atLeastOne : Current → Current

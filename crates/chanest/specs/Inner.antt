@@ -1,60 +1,70 @@
 -- The words of the contracts inside this crate.
 -- Definitions only.
-use Prim.Native.Nat.{ℕ, _+_, _-_, _*_, _≤_, _<_}
+use Prim.Native.Nat.{ℕ, _+_, _*_, _≤_, _<_}
 use mathlib.Core.List.{List, map}
 use mathlib.Core.Path.{_≡_}
 use lib.ListN.{length}
 use lib.Ieee.{Float, binary32}
 use Rattle.lists.specs.Lists.{upTo}
 use Rattle.params.specs.declared.Mode.{Mode}
-use Rattle.params.specs.Params.{totalCarriers}
+use Rattle.ofdm.specs.declared.BandCarrier.{BandCarrier}
 use Rattle.complex.specs.Complex.{Pair, scaled}
-use Rattle.spectra.specs.Spectra.{pairAt, spectraIn}
+use Rattle.spectra.specs.Spectra.{pairAt}
 use Rattle.prbs.specs.Signs.{bandSigns}
+use Rattle.chanest.specs.declared.Current.{Current}
 use Rattle.chanest.specs.declared.Window.{Window}
+use Rattle.chanest.specs.declared.Offsets.{Offsets}
 use Rattle.chanest.specs.declared.Sent.{Sent}
 use Rattle.chanest.specs.declared.Times.{Times}
 use Rattle.chanest.specs.declared.Scattered.{Scattered}
 use Rattle.chanest.specs.declared.Plan.{Plan}
 use Rattle.chanest.specs.Line.{mean, spread}
-use Rattle.chanest.specs.Window.{offsets, inWindow, carrierIn, offsetOf}
-use Rattle.chanest.specs.Grid.{gridPoints, scatteredAt, continualAt, gridOf}
+use Rattle.chanest.specs.Window.{scatteredOffsets, continualOffsets, inWindow, carrierIn, offsetOf}
+use Rattle.chanest.specs.Grid.{gridPoints, windowOf, scatteredAt, continualAt, gridOf}
 
 -- ---- the spectra in which a carrier's pilot is sent
+abbrev pub spectrumOf : Sent → ℕ → ℕ
+spectrumOf s i = s .first + s .step * i
+
 abbrev pub spectraOf : Sent → List ℕ
-spectraOf s = upTo (λ i. s .first + s .step * i) (s .count)
+spectraOf s = upTo (spectrumOf s) (s .count)
 
 -- they lie within a window of n
 pub record Inside (n : ℕ) (s : Sent) : Type 0 where
-  pub inside : (i : ℕ) → i < s .count → s .first + s .step * i < n
+  pub inside : (i : ℕ) → i < s .count → spectrumOf s i < n
   pub few : s .count ≤ n
   pub start : s .first ≤ n
   pub near : s .step ≤ 4
 
--- a window of n spectra around t, and offsets that can be looked for in it
-pub record Searchable (n t before step count : ℕ) : Type 0 where
-  pub current : t < n
-  pub few : n ≤ 1024
-  pub forward : 0 < step
-  pub near : step ≤ 4
-  pub early : before ≤ 512
-  pub short : count ≤ 512
+-- as many scattered pilots on each side as an accepted call has
+pub record Counted (current : Current) : Type 0 where
+  pub wide : 0 < current .w
+  pub short : current .w ≤ 64
 
-pub record Reached (n t before step count : ℕ) (s : Sent) : Type 0 where
-  pub spectra : spectraOf s ≡ inWindow n t (offsets before step count)
-  pub inside : Inside n s
+-- a window, and offsets that can be looked for in it
+pub record Searchable (win : Window) (o : Offsets) : Type 0 where
+  pub current : win .current .index < win .count
+  pub few : win .count ≤ 1024
+  pub forward : 0 < o .step
+  pub near : o .step ≤ 4
+  pub early : o .before ≤ 512
+  pub short : o .count ≤ 512
 
--- ---- their offsets from spectrum t
-abbrev pub offsetsOf : ℕ → Sent → List Float
-offsetsOf t s = map (offsetOf t) (spectraOf s)
+pub record Reached (win : Window) (o : Offsets) (s : Sent) : Type 0 where
+  pub spectra : spectraOf s ≡ inWindow win o
+  pub inside : Inside (win .count) s
 
-pub record Timed (t : ℕ) (r : Times) : Type 0 where
-  pub middle : r .mean ≡ mean (offsetsOf t (r .sent))
-  pub width : r .spread ≡ spread (r .mean) (offsetsOf t (r .sent))
+-- ---- their offsets from the current spectrum
+abbrev pub offsetsOf : Window → Sent → List Float
+offsetsOf win s = map (offsetOf win) (spectraOf s)
 
-pub record TimesOf (n t before step count : ℕ) (r : Times) : Type 0 where
-  pub reached : Reached n t before step count (r .sent)
-  pub timed : Timed t r
+pub record Timed (win : Window) (r : Times) : Type 0 where
+  pub middle : r .mean ≡ mean (offsetsOf win (r .sent))
+  pub width : r .spread ≡ spread (r .mean) (offsetsOf win (r .sent))
+
+pub record TimesOf (win : Window) (o : Offsets) (r : Times) : Type 0 where
+  pub reached : Reached win o (r .sent)
+  pub timed : Timed win r
 
 -- ---- a carrier of the window: n floats are its spectra
 pub record Spanned (win : Window) (n : ℕ) : Type 0 where
@@ -63,32 +73,31 @@ pub record Spanned (win : Window) (n : ℕ) : Type 0 where
   pub few : win .count ≤ 1024
   pub narrow : win .len ≤ 5617
 
-pub record Fitting (win : Window) (s : Sent) (k n : ℕ) : Type 0 where
+pub record Fitting (win : Window) (s : Sent) (k : BandCarrier) (n : ℕ) : Type 0 where
   pub spanned : Spanned win n
-  pub carrier : k < win .len
+  pub carrier : k .0 < win .len
   pub inside : Inside (win .count) s
 
 -- carrier k in spectrum s, with its pilot taken off
-abbrev pub valueIn : ℕ → List Float → ℕ → Float → ℕ → Pair
-valueIn len xs k inverse s = scaled binary32 (carrierIn len xs k s) inverse
+abbrev pub valueIn : Window → List Float → BandCarrier → Float → ℕ → Pair
+valueIn win xs k inverse s = scaled binary32 (carrierIn win xs k s) inverse
 
 -- ---- what the points of a grid share
 -- the current spectrum is in the window, and the times can be looked for
 pub record Usable (win : Window) : Type 0 where
   pub current : win .current .index < win .count
   pub few : win .count ≤ 1024
-  pub wide : 0 < win .current .w
-  pub short : win .current .w ≤ 64
+  pub counted : Counted (win .current)
 
 -- the times of the scattered pilots, sent last `back` symbols ago
 abbrev pub ScatteredAgo : Window → ℕ → Times → Type 0
-ScatteredAgo win back r = TimesOf (win .count) (win .current .index) (4 * (win .current .w - 1) + back) 4 (2 * win .current .w) r
+ScatteredAgo win back r = TimesOf win (scatteredOffsets (win .current) back) r
 
 pub record ScatteredTimes (win : Window) (r : Scattered) : Type 0 where
-  pub now : ScatteredAgo win 0 (r .now)
-  pub one : ScatteredAgo win 1 (r .one)
-  pub two : ScatteredAgo win 2 (r .two)
-  pub three : ScatteredAgo win 3 (r .three)
+  pub ago0 : ScatteredAgo win 0 (r .ago0)
+  pub ago1 : ScatteredAgo win 1 (r .ago1)
+  pub ago2 : ScatteredAgo win 2 (r .ago2)
+  pub ago3 : ScatteredAgo win 3 (r .ago3)
 
 pub record SentAgo (s : Scattered) (back : ℕ) (r : Times) : Type 0 where
   pub ago : (win : Window) → ScatteredTimes win s → ScatteredAgo win back r
@@ -97,7 +106,7 @@ pub record Planned (mode : Mode) (win : Window) (r : Plan) : Type 0 where
   pub same-mode : r .mode ≡ mode
   pub same-window : r .win ≡ win
   pub scattered : ScatteredTimes win (r .scattered)
-  pub continual : TimesOf (win .count) (win .current .index) (2 * win .current .w - 1) 1 (4 * win .current .w - 1) (r .continual)
+  pub continual : TimesOf win (continualOffsets (win .current)) (r .continual)
 
 -- ---- the lent grid: points from `from` to `to` hold f's values, the others what they held
 pub record Written (f : ℕ → Pair) (from to : ℕ) (old now : List Float) : Type 0 where
@@ -109,12 +118,11 @@ pub record Written (f : ℕ → Pair) (from to : ℕ) (old now : List Float) : T
 -- a plan for the window of the spectra xs, with the band's signs and a grid
 pub record Writable (plan : Plan) (xs : List Float) (signs : List ℕ) (out : List Float) : Type 0 where
   pub phase : plan .win .current .phase < 4
-  pub len : plan .win .len ≡ totalCarriers (plan .mode)
-  pub count : plan .win .count ≡ spectraIn (totalCarriers (plan .mode)) (length xs)
+  pub window : plan .win ≡ windowOf (plan .mode) xs (plan .win .current)
   pub spanned : Spanned (plan .win) (length xs)
   pub signed : signs ≡ bandSigns (plan .mode)
   pub scattered : ScatteredTimes (plan .win) (plan .scattered)
-  pub continual : TimesOf (plan .win .count) (plan .win .current .index) (2 * plan .win .current .w - 1) 1 (4 * plan .win .current .w - 1) (plan .continual)
+  pub continual : TimesOf (plan .win) (continualOffsets (plan .win .current)) (plan .continual)
   pub room : length out ≡ 2 * gridPoints (plan .mode)
 
 -- the points of a plan

@@ -31,9 +31,12 @@ mean xs = div binary32 (total binary32 minusZero xs) (ofInt binary32 (pos (lengt
 unfoldable pub meanPair : List Pair → Pair
 meanPair vs = divided binary32 (totals binary32 (pair (plusZero binary32) (plusZero binary32)) vs) (ofInt binary32 (pos (length vs)))
 
--- the squares of x - xm
+-- the square of x - xm
+abbrev pub squared : Float → Float → Float
+squared xm x = mul binary32 (sub binary32 x xm) (sub binary32 x xm)
+
 unfoldable pub spread : Float → List Float → Float
-spread xm xs = total binary32 minusZero (map (λ (x : Float). mul binary32 (sub binary32 x xm) (sub binary32 x xm)) xs)
+spread xm xs = total binary32 minusZero (map (squared xm) xs)
 
 -- v - vm, times x - xm
 abbrev pub leaning : Float → Pair → Point → Pair

@@ -6,16 +6,19 @@
 // neighbour is not coherent is closed by a continual pilot: carrier 0 of that neighbour, or the edge.
 ghost use mathlib.Core.Path.{_≡_};
 ghost use mathlib.Core.List.{map};
-ghost use Prim.Native.Nat.{_+_, _-_, _*_, _≤_, _<_};
+ghost use Prim.Native.Nat.{_+_, _*_, _≤_, _<_};
 ghost use lib.ListN.{length};
 ghost use Rattle.params.specs.Params.{modeFrom};
 ghost use Rattle.complex.specs.Complex.{of32};
 ghost use Rattle.chanest.specs.Line.{mean, spread, meanPair, slopeSum};
-ghost use Rattle.chanest.specs.Window.{offsetOf, pointsIn, estimateOf};
-ghost use Rattle.chanest.specs.Grid.{segmentPoints, inverseOf, atLeastOne, grid, windowCode, GridEstimated};
-ghost use Rattle.chanest.specs.Inner.{spectraOf, Inside, Searchable, Reached, offsetsOf, Timed, TimesOf, Usable, ScatteredTimes, SentAgo, Planned, Spanned, Fitting, valueIn, Writable, scatteredPoint, continualPoint, Written, gridBy};
+ghost use Rattle.chanest.specs.Window.{scatteredOffsets, continualOffsets, carrierIn, offsetOf, pointsIn, estimateOf};
+ghost use Rattle.chanest.specs.Grid.{segmentPoints, carrierOf, backOf, inverseOf, atLeastOne, grid, windowCode, GridEstimated};
+ghost use Rattle.chanest.specs.Inner.{spectrumOf, spectraOf, Inside, Counted, Searchable, Reached, offsetsOf, Timed, TimesOf};
+ghost use Rattle.chanest.specs.Inner.{Usable, ScatteredTimes, SentAgo, Planned, Spanned, Fitting, valueIn};
+ghost use Rattle.chanest.specs.Inner.{Writable, scatteredPoint, continualPoint, Written, gridBy};
 use complex::C32;
 use frame::FrameLayout;
+use ofdm::BandCarrier;
 use ofdm::BandPlace;
 use params::Mode;
 use params::SegmentKind;
@@ -38,6 +41,17 @@ pub struct Window {
     pub current: Current,
 }
 
+// Offsets from the current symbol: `count` of them, the first `before` symbols before it, then `step`
+// apart.
+pub struct Offsets {
+    pub before: usize,
+    pub step: usize,
+    pub count: usize,
+}
+
+// A point of the grid, counted from the lowest: each is three carriers above the one before.
+pub struct GridPoint(pub usize);
+
 // The spectra in which a carrier's pilot is sent: `count` of them from `first` on, `step` apart.
 pub struct Sent {
     pub first: usize,
@@ -55,10 +69,10 @@ pub struct Times {
 
 // The times of the carriers whose scattered pilot was sent last now, or one, two or three symbols ago.
 pub struct Scattered {
-    pub now: Times,
-    pub one: Times,
-    pub two: Times,
-    pub three: Times,
+    pub ago0: Times,
+    pub ago1: Times,
+    pub ago2: Times,
+    pub ago3: Times,
 }
 
 // What the points of a grid share: the times of its scattered and of its continual pilots.
@@ -69,102 +83,22 @@ pub struct Plan {
     pub continual: Times,
 }
 
-// Of a window of n spectra, those at `count` offsets from spectrum t: the first `before` symbols before
-// it, then `step` apart.
-fn sent_in(n: usize, t: usize, before: usize, step: usize, count: usize) -> Sent
-    requires { ⌜ Searchable n t before step count ⌝ }
-    ensures { λ r. ⌜ Reached n t before step count r ⌝ }
-{
-    let skipped = if before <= t {
-        0
-    } else {
-        (before - t + step - 1) / step
-    };
-    let first = t + step * skipped - before;
-    if count <= skipped || n <= first {
-        return Sent {
-            first: 0,
-            step: step,
-            count: 0,
-        };
-    }
-    let left = count - skipped;
-    let room = (n - 1 - first) / step + 1;
-    Sent {
-        first: first,
-        step: step,
-        count: if left < room { left } else { room },
+impl GridPoint {
+    // The carrier of the point.
+    fn carrier(self) -> BandCarrier
+        requires { ⌜ self .0 ≤ 1872 ⌝ }
+        ensures { λ r. ⌜ r ≡ carrierOf (self .0) ⌝ }
+    {
+        BandCarrier(3 * self.0)
     }
 }
 
-// The offset of spectrum s from spectrum t.
-fn offset(t: usize, s: usize) -> f32
-    requires { ⌜ (t ≤ 1024) × (s ≤ 1024) ⌝ }
-    ensures { λ r. ⌜ r ≡ offsetOf t s ⌝ }
+// The lowest point of a place of the band; above the last place it is the edge's.
+fn lowest_point(mode: Mode, place: BandPlace) -> GridPoint
+    requires { ⌜ place .0 ≤ 13 ⌝ }
+    ensures { λ r. ⌜ r .0 ≡ place .0 * segmentPoints mode ⌝ }
 {
-    (s as i64 - t as i64) as f32
-}
-
-// The mean of the offsets from spectrum t.
-fn mean_offset(sent: Sent, t: usize) -> f32
-    requires { ⌜ Inside 1024 sent × (t ≤ 1024) ⌝ }
-    ensures { λ r. ⌜ r ≡ mean (offsetsOf t sent) ⌝ }
-{
-    let mut sum = ieee::NEGATIVE_ZERO;
-    let mut i: usize = 0;
-    while i < sent.count {
-        sum = sum + offset(t, sent.first + sent.step * i);
-        i += 1;
-    }
-    sum / sent.count as f32
-}
-
-// How far the offsets from spectrum t are spread about their mean.
-fn spread_about(sent: Sent, t: usize, mean: f32) -> f32
-    requires { ⌜ Inside 1024 sent × (t ≤ 1024) ⌝ }
-    ensures { λ r. ⌜ r ≡ spread mean (offsetsOf t sent) ⌝ }
-{
-    let mut sum = ieee::NEGATIVE_ZERO;
-    let mut i: usize = 0;
-    while i < sent.count {
-        let x = offset(t, sent.first + sent.step * i) - mean;
-        sum = sum + x * x;
-        i += 1;
-    }
-    sum
-}
-
-// The times of a carrier whose pilot is sent at `count` offsets, `step` apart from `before` symbols ago on.
-fn times_at(win: Window, before: usize, step: usize, count: usize) -> Times
-    requires { ⌜ Searchable (win .count) (win .current .index) before step count ⌝ }
-    ensures { λ r. ⌜ TimesOf (win .count) (win .current .index) before step count r ⌝ }
-{
-    let current = win.current;
-    let t = current.index;
-    let sent = sent_in(win.count, t, before, step, count);
-    let mean = mean_offset(sent, t);
-    let spread = spread_about(sent, t, mean);
-    Times { sent, mean, spread }
-}
-
-// The times of the scattered pilots, w on each side of the current symbol.
-fn scattered_times(win: Window) -> Scattered
-    requires { ⌜ Usable win ⌝ }
-    ensures { λ r. ⌜ ScatteredTimes win r ⌝ }
-{
-    let current = win.current;
-    let w = current.w;
-    let before = 4 * (w - 1);
-    let now = times_at(win, before, 4, 2 * w);
-    let one = times_at(win, before + 1, 4, 2 * w);
-    let two = times_at(win, before + 2, 4, 2 * w);
-    let three = times_at(win, before + 3, 4, 2 * w);
-    Scattered {
-        now,
-        one,
-        two,
-        three,
-    }
+    GridPoint(place.0 * (mode.carriers_per_segment() / 3))
 }
 
 impl Current {
@@ -178,6 +112,145 @@ impl Current {
             w: if self.w == 0 { 1 } else { self.w },
         }
     }
+
+    // The symbols since the carrier of a point last had its scattered pilot.
+    fn back(self, i: GridPoint) -> usize
+        requires { ⌜ self .phase < 4 ⌝ }
+        ensures { λ r. ⌜ (r ≡ backOf self (i .0)) × (r < 4) ⌝ }
+    {
+        (self.phase as usize + 4 - i.0 % 4) % 4
+    }
+
+    // The offsets of a scattered pilot that was sent last `back` symbols ago.
+    fn scattered(self, back: usize) -> Offsets
+        requires { ⌜ Counted self × (back < 4) ⌝ }
+        ensures { λ r. ⌜ r ≡ scatteredOffsets self back ⌝ }
+    {
+        Offsets {
+            before: 4 * (self.w - 1) + back,
+            step: 4,
+            count: 2 * self.w,
+        }
+    }
+
+    // The offsets of a continual pilot.
+    fn continual(self) -> Offsets
+        requires { ⌜ Counted self ⌝ }
+        ensures { λ r. ⌜ r ≡ continualOffsets self ⌝ }
+    {
+        Offsets {
+            before: 2 * self.w - 1,
+            step: 1,
+            count: 4 * self.w - 1,
+        }
+    }
+}
+
+// The spectra of a window at the offsets.
+fn sent_in(win: Window, at: Offsets) -> Sent
+    requires { ⌜ Searchable win at ⌝ }
+    ensures { λ r. ⌜ Reached win at r ⌝ }
+{
+    let current = win.current;
+    let t = current.index;
+    let step = at.step;
+    let skipped = if at.before <= t {
+        0
+    } else {
+        (at.before - t + step - 1) / step
+    };
+    let first = t + step * skipped - at.before;
+    if at.count <= skipped || win.count <= first {
+        return Sent {
+            first: 0,
+            step: step,
+            count: 0,
+        };
+    }
+    let left = at.count - skipped;
+    let room = (win.count - 1 - first) / step + 1;
+    Sent {
+        first: first,
+        step: step,
+        count: if left < room { left } else { room },
+    }
+}
+
+impl Sent {
+    // The i-th of the spectra.
+    fn spectrum(self, i: usize) -> usize
+        requires { ⌜ Inside 1024 self × (i < self .count) ⌝ }
+        ensures { λ r. ⌜ r ≡ spectrumOf self i ⌝ }
+    {
+        self.first + self.step * i
+    }
+}
+
+// The offset of spectrum s from the current one.
+fn offset(win: Window, s: usize) -> f32
+    requires { ⌜ (win .current .index ≤ 1024) × (s ≤ 1024) ⌝ }
+    ensures { λ r. ⌜ r ≡ offsetOf win s ⌝ }
+{
+    let current = win.current;
+    (s as i64 - current.index as i64) as f32
+}
+
+// The mean of the offsets.
+fn mean_offset(win: Window, sent: Sent) -> f32
+    requires { ⌜ Inside 1024 sent × (win .current .index ≤ 1024) ⌝ }
+    ensures { λ r. ⌜ r ≡ mean (offsetsOf win sent) ⌝ }
+{
+    let mut sum = ieee::NEGATIVE_ZERO;
+    let mut i: usize = 0;
+    while i < sent.count {
+        sum = sum + offset(win, sent.spectrum(i));
+        i += 1;
+    }
+    sum / sent.count as f32
+}
+
+// How far the offsets are spread about their mean.
+fn spread_about(win: Window, sent: Sent, mean: f32) -> f32
+    requires { ⌜ Inside 1024 sent × (win .current .index ≤ 1024) ⌝ }
+    ensures { λ r. ⌜ r ≡ spread mean (offsetsOf win sent) ⌝ }
+{
+    let mut sum = ieee::NEGATIVE_ZERO;
+    let mut i: usize = 0;
+    while i < sent.count {
+        let x = offset(win, sent.spectrum(i)) - mean;
+        sum = sum + x * x;
+        i += 1;
+    }
+    sum
+}
+
+// The times of a carrier whose pilot is sent at the offsets.
+fn times_at(win: Window, at: Offsets) -> Times
+    requires { ⌜ Searchable win at ⌝ }
+    ensures { λ r. ⌜ TimesOf win at r ⌝ }
+{
+    let sent = sent_in(win, at);
+    let mean = mean_offset(win, sent);
+    let spread = spread_about(win, sent, mean);
+    Times { sent, mean, spread }
+}
+
+// The times of the scattered pilots, w on each side of the current symbol.
+fn scattered_times(win: Window) -> Scattered
+    requires { ⌜ Usable win ⌝ }
+    ensures { λ r. ⌜ ScatteredTimes win r ⌝ }
+{
+    let current = win.current;
+    let ago0 = times_at(win, current.scattered(0));
+    let ago1 = times_at(win, current.scattered(1));
+    let ago2 = times_at(win, current.scattered(2));
+    let ago3 = times_at(win, current.scattered(3));
+    Scattered {
+        ago0,
+        ago1,
+        ago2,
+        ago3,
+    }
 }
 
 impl Scattered {
@@ -187,15 +260,15 @@ impl Scattered {
         ensures { λ r. ⌜ SentAgo self back r ⌝ }
     {
         if back == 0 {
-            return self.now;
+            return self.ago0;
         }
         if back == 1 {
-            return self.one;
+            return self.ago1;
         }
         if back == 2 {
-            return self.two;
+            return self.ago2;
         }
-        self.three
+        self.ago3
     }
 }
 
@@ -205,9 +278,8 @@ fn planned(mode: Mode, win: Window) -> Plan
     ensures { λ r. ⌜ Planned mode win r ⌝ }
 {
     let current = win.current;
-    let w = current.w;
     let scattered = scattered_times(win);
-    let continual = times_at(win, 2 * w - 1, 1, 4 * w - 1);
+    let continual = times_at(win, current.continual());
     Plan {
         mode,
         win,
@@ -227,43 +299,55 @@ fn inverse_pilot(sign: u8) -> f32
     }
 }
 
-// Carrier k of spectrum s, with its pilot taken off.
-fn value_in(win: Window, spectra: &[f32], k: usize, s: usize, inverse: f32) -> C32
-    requires { ⌜ Spanned win (length (now spectra)) × (k < win .len) × (s < win .count) ⌝ }
-    ensures { λ r. ⌜ of32 r ≡ valueIn (win .len) (now (spectra .entry)) k inverse s ⌝ }
+// Carrier k of spectrum s.
+fn carrier_in(win: Window, spectra: &[f32], k: BandCarrier, s: usize) -> C32
+    requires { ⌜ Spanned win (length (now spectra)) × (k .0 < win .len) × (s < win .count) ⌝ }
+    ensures { λ r. ⌜ of32 r ≡ carrierIn win (now (spectra .entry)) k s ⌝ }
 {
-    let y = spectra::pair_at(spectra, s * win.len + k);
-    y.scale(inverse)
+    spectra::pair_at(spectra, s * win.len + k.0)
+}
+
+// The same with its pilot taken off.
+fn value_in(win: Window, spectra: &[f32], k: BandCarrier, s: usize, inverse: f32) -> C32
+    requires { ⌜ Spanned win (length (now spectra)) × (k .0 < win .len) × (s < win .count) ⌝ }
+    ensures { λ r. ⌜ of32 r ≡ valueIn win (now (spectra .entry)) k inverse s ⌝ }
+{
+    carrier_in(win, spectra, k, s).scale(inverse)
 }
 
 // The mean of a carrier's values.
-fn mean_value(win: Window, sent: Sent, spectra: &[f32], k: usize, inverse: f32) -> C32
+fn mean_value(win: Window, sent: Sent, spectra: &[f32], k: BandCarrier, inverse: f32) -> C32
     requires { ⌜ Fitting win sent k (length (now spectra)) ⌝ }
-    ensures { λ r. ⌜ of32 r ≡ meanPair (map (valueIn (win .len) (now (spectra .entry)) k inverse) (spectraOf sent)) ⌝ }
+    ensures { λ r. ⌜ of32 r ≡ meanPair (map (valueIn win (now (spectra .entry)) k inverse) (spectraOf sent)) ⌝ }
 {
     let mut sum = C32::new(0.0, 0.0);
     let mut i: usize = 0;
     while i < sent.count {
-        let s = sent.first + sent.step * i;
-        sum = sum.add(value_in(win, spectra, k, s, inverse));
+        sum = sum.add(value_in(win, spectra, k, sent.spectrum(i), inverse));
         i += 1;
     }
     sum.unscale(sent.count as f32)
 }
 
 // The values' and the offsets' distances from their means, multiplied and summed.
-fn slope_sum(win: Window, at: Times, middle: C32, spectra: &[f32], k: usize, inverse: f32) -> C32
-    requires { ⌜ Fitting win (at .sent) k (length (now spectra)) ⌝ }
-    ensures { λ r. ⌜ of32 r ≡ slopeSum (at .mean) (of32 middle) (pointsIn (win .len) (now (spectra .entry)) (win .current .index) k inverse (spectraOf (at .sent))) ⌝ }
+fn slope_sum(
+    win: Window,
+    times: Times,
+    middle: C32,
+    spectra: &[f32],
+    k: BandCarrier,
+    inverse: f32,
+) -> C32
+    requires { ⌜ Fitting win (times .sent) k (length (now spectra)) ⌝ }
+    ensures { λ r. ⌜ of32 r ≡ slopeSum (times .mean) (of32 middle) (pointsIn win (now (spectra .entry)) k inverse (spectraOf (times .sent))) ⌝ }
 {
-    let sent = at.sent;
-    let current = win.current;
+    let sent = times.sent;
     let mut sum = C32::new(0.0, 0.0);
     let mut i: usize = 0;
     while i < sent.count {
-        let s = sent.first + sent.step * i;
+        let s = sent.spectrum(i);
         let v = value_in(win, spectra, k, s, inverse).sub(middle);
-        sum = sum.add(v.scale(offset(current.index, s) - at.mean));
+        sum = sum.add(v.scale(offset(win, s) - times.mean));
         i += 1;
     }
     sum
@@ -271,66 +355,69 @@ fn slope_sum(win: Window, at: Times, middle: C32, spectra: &[f32], k: usize, inv
 
 // The least-squares line through a carrier's values at the current symbol. A single value is taken as it
 // is, and values that are not spread give their mean.
-fn ls_line_at_zero(win: Window, at: Times, spectra: &[f32], k: usize, inverse: f32) -> C32
-    requires { ⌜ Fitting win (at .sent) k (length (now spectra)) × Timed (win .current .index) at × (0 < at .sent .count) ⌝ }
-    ensures { λ r. ⌜ of32 r ≡ estimateOf (win .len) (now (spectra .entry)) (win .current .index) k inverse (spectraOf (at .sent)) ⌝ }
+fn ls_line_at_zero(win: Window, times: Times, spectra: &[f32], k: BandCarrier, inverse: f32) -> C32
+    requires { ⌜ Fitting win (times .sent) k (length (now spectra)) × Timed win times × (0 < times .sent .count) ⌝ }
+    ensures { λ r. ⌜ of32 r ≡ estimateOf win (now (spectra .entry)) k inverse (spectraOf (times .sent)) ⌝ }
 {
-    let sent = at.sent;
+    let sent = times.sent;
     if sent.count == 1 {
         return value_in(win, spectra, k, sent.first, inverse);
     }
     let middle = mean_value(win, sent, spectra, k, inverse);
-    if at.spread <= 0.0 {
+    if times.spread <= 0.0 {
         return middle;
     }
-    let slope = slope_sum(win, at, middle, spectra, k, inverse).unscale(at.spread);
-    middle.add(slope.scale(0.0 - at.mean))
+    let slope = slope_sum(win, times, middle, spectra, k, inverse).unscale(times.spread);
+    middle.add(slope.scale(0.0 - times.mean))
 }
 
 // The estimate at carrier k. Where no spectrum of the window has its pilot, the carrier is taken as the
 // current spectrum has it, its sign too.
-fn estimate_at(win: Window, at: Times, spectra: &[f32], k: usize, sign: u8) -> C32
-    requires { ⌜ Fitting win (at .sent) k (length (now spectra)) × Timed (win .current .index) at ⌝ }
-    ensures { λ r. ⌜ of32 r ≡ estimateOf (win .len) (now (spectra .entry)) (win .current .index) k (inverseOf sign) (spectraOf (at .sent)) ⌝ }
+fn estimate_at(win: Window, times: Times, spectra: &[f32], k: BandCarrier, sign: u8) -> C32
+    requires { ⌜ Fitting win (times .sent) k (length (now spectra)) × Timed win times ⌝ }
+    ensures { λ r. ⌜ of32 r ≡ estimateOf win (now (spectra .entry)) k (inverseOf sign) (spectraOf (times .sent)) ⌝ }
 {
-    let sent = at.sent;
+    let sent = times.sent;
     if sent.count == 0 {
         let current = win.current;
-        return spectra::pair_at(spectra, current.index * win.len + k);
+        return carrier_in(win, spectra, k, current.index);
     }
-    ls_line_at_zero(win, at, spectra, k, inverse_pilot(sign))
+    ls_line_at_zero(win, times, spectra, k, inverse_pilot(sign))
 }
 
-// The points of a coherent segment, from point `from` on.
-fn write_segment(plan: Plan, spectra: &[f32], signs: &[u8], from: usize, out: &mut [f32])
-    requires { ⌜ Writable plan (now spectra) (now signs) (now out) × (from + segmentPoints (plan .mode) ≤ 13 * segmentPoints (plan .mode)) ⌝ }
-    ensures { λ _. ⌜ Written (scatteredPoint plan (now (spectra .entry))) from (from + segmentPoints (plan .mode)) (now (out .entry)) (now (out .exit)) ⌝ }
+// The points of a coherent segment, from its lowest on.
+fn write_segment(plan: Plan, spectra: &[f32], signs: &[u8], from: GridPoint, out: &mut [f32])
+    requires { ⌜ Writable plan (now spectra) (now signs) (now out) × (from .0 + segmentPoints (plan .mode) ≤ 13 * segmentPoints (plan .mode)) ⌝ }
+    ensures { λ _. ⌜ Written (scatteredPoint plan (now (spectra .entry))) (from .0) (from .0 + segmentPoints (plan .mode)) (now (out .entry)) (now (out .exit)) ⌝ }
 {
     let mode = plan.mode;
     let win = plan.win;
-    let scattered = plan.scattered;
     let current = win.current;
-    let phase = current.phase as usize;
-    let to = from + mode.carriers_per_segment() / 3;
-    let mut i = from;
+    let scattered = plan.scattered;
+    let to = from.0 + mode.carriers_per_segment() / 3;
+    let mut i = from.0;
     while i < to {
-        let at = scattered.at((phase + 4 - i % 4) % 4);
-        let k = 3 * i;
-        let v = estimate_at(win, at, spectra, k, signs[k]);
+        let point = GridPoint(i);
+        let times = scattered.at(current.back(point));
+        let k = point.carrier();
+        let number = k.0;
+        let v = estimate_at(win, times, spectra, k, signs[number]);
         spectra::put_pair(out, i, v);
         i += 1;
     }
 }
 
 // The continual pilot at point i, which closes the segment below.
-fn write_closing(plan: Plan, spectra: &[f32], signs: &[u8], i: usize, out: &mut [f32])
-    requires { ⌜ Writable plan (now spectra) (now signs) (now out) × (i ≤ 13 * segmentPoints (plan .mode)) ⌝ }
-    ensures { λ _. ⌜ Written (continualPoint plan (now (spectra .entry))) i (i + 1) (now (out .entry)) (now (out .exit)) ⌝ }
+fn write_closing(plan: Plan, spectra: &[f32], signs: &[u8], i: GridPoint, out: &mut [f32])
+    requires { ⌜ Writable plan (now spectra) (now signs) (now out) × (i .0 ≤ 13 * segmentPoints (plan .mode)) ⌝ }
+    ensures { λ _. ⌜ Written (continualPoint plan (now (spectra .entry))) (i .0) (i .0 + 1) (now (out .entry)) (now (out .exit)) ⌝ }
 {
     let win = plan.win;
-    let k = 3 * i;
-    let v = estimate_at(win, plan.continual, spectra, k, signs[k]);
-    spectra::put_pair(out, i, v);
+    let continual = plan.continual;
+    let k = i.carrier();
+    let number = k.0;
+    let v = estimate_at(win, continual, spectra, k, signs[number]);
+    spectra::put_pair(out, i.0, v);
 }
 
 // The points of the band: segment after segment from the lowest place, and what closes them.
@@ -339,19 +426,20 @@ fn write_points(layout: FrameLayout, plan: Plan, spectra: &[f32], signs: &[u8], 
     ensures { λ _. ⌜ now (out .exit) ≡ gridBy plan (layout .kinds) (now (spectra .entry)) (now (out .entry)) ⌝ }
 {
     let mode = layout.mode;
-    let n = mode.carriers_per_segment() / 3;
     let mut below = false; // whether the segment below is coherent
     let mut place: usize = 0;
     while place < 13 {
-        let seg = ofdm::segment_at_position(BandPlace(place));
+        let here = BandPlace(place);
+        let seg = ofdm::segment_at_position(here);
+        let lowest = lowest_point(mode, here);
         match layout.kind(seg) {
             SegmentKind::Coherent => {
-                write_segment(plan, spectra, signs, place * n, out);
+                write_segment(plan, spectra, signs, lowest, out);
                 below = true;
             }
             SegmentKind::Differential => {
                 if below {
-                    write_closing(plan, spectra, signs, place * n, out);
+                    write_closing(plan, spectra, signs, lowest, out);
                 }
                 below = false;
             }
@@ -359,7 +447,7 @@ fn write_points(layout: FrameLayout, plan: Plan, spectra: &[f32], signs: &[u8], 
         place += 1;
     }
     if below {
-        write_closing(plan, spectra, signs, 13 * n, out);
+        write_closing(plan, spectra, signs, lowest_point(mode, BandPlace(13)), out);
     }
 }
 

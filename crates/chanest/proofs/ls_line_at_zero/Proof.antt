@@ -13,7 +13,7 @@ value-in-requires c κs =
     (p .0 .spanned, p .0 .carrier, omega (arith, p .0 .inside .inside 0 (p .2)))
 
 returns : tie.Need-returns
-returns c = c .value-in .ensures ∙ sym (one-is _ _ _ _ _ _ (c .before .if1 .taken))
+returns c = c .value-in .ensures ∙ sym (one-is _ _ _ _ _ (c .before .if1 .taken))
 
 mean-value-requires : tie.Need-mean-value-requires
 mean-value-requires c κs = search needs
@@ -22,7 +22,7 @@ returns-2 : tie.Need-returns-2
 returns-2 c =
     let m = c .before .before in
     let p = m .before .before .before .before .before .pre in
-    sym (flat-is _ _ _ _ _ _ (omega (arith, p .2, m .before .if1 .left)) (p .1) _ (m .mean-value .ensures) (c .if2 .taken))
+    sym (flat-is _ _ _ _ _ (omega (arith, p .2, m .before .if1 .left)) (p .1) _ (m .mean-value .ensures) (c .if2 .taken))
 
 slope-sum-requires : tie.Need-slope-sum-requires
 slope-sum-requires c κs = search needs
@@ -42,7 +42,7 @@ returns-3 c =
     let t = u .before .before in
     let m = t .before .before in
     let p = m .before .before .before .before .before .pre in
-    at-zero-is _ _ _ _ _ _ (omega (arith, p .2, m .before .if1 .left)) (p .1) _ (m .mean-value .ensures) (t .if2 .left) _ _ _ _
+    at-zero-is _ _ _ _ _ (omega (arith, p .2, m .before .if1 .left)) (p .1) _ (m .mean-value .ensures) (t .if2 .left) _ _ _ _
     (u .before .slope-sum .ensures) (u .unscale .ensures) (c .before .scale .ensures) (c .add .ensures)
 
 pub ls-line-at-zero-spec : {M : Type 1} → statement M

@@ -15,13 +15,19 @@ cast-result-2 : tie.Need-cast-result-2
 cast-result-2 c = search needs
 
 sub-result : tie.Need-sub-result
-sub-result c = difference-fits (c .args .s) (c .args .t) (omega (arith, c .pre .0, c .pre .1))
+sub-result c =
+    let s = c .before .before in
+    difference-fits (s .args .s) (s .args .win .current .index) (omega (arith, s .pre .0, s .pre .1))
 
 int-to-float-result : tie.Need-int-to-float-result
-int-to-float-result c = difference-held (c .before .args .s) (c .before .args .t) (omega (arith, c .before .pre .0, c .before .pre .1))
+int-to-float-result c =
+    let s = c .before .before .before in
+    difference-held (s .args .s) (s .args .win .current .index) (omega (arith, s .pre .0, s .pre .1))
 
 returns : tie.Need-returns
-returns c = ap (ofInt binary32) (difference-is (c .before .args .s) (c .before .args .t) (omega (arith, c .before .pre .0, c .before .pre .1)))
+returns c =
+    let s = c .before .before .before in
+    ap (ofInt binary32) (difference-is (s .args .s) (s .args .win .current .index) (omega (arith, s .pre .0, s .pre .1)))
 
 pub offset-spec : {M : Type 1} → statement M
 offset-spec = tie.close (tie.spec cast-result cast-result-2 sub-result int-to-float-result returns)

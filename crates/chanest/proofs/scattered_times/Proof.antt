@@ -1,75 +1,61 @@
--- `chanest::scattered_times` meets its contract: each field is made at its own age, the first at none.
+-- `chanest::scattered_times` meets its contract: each field is made at the offsets of its own age.
 -- Assumes nothing.
-use Prim.Native.Nat.{_-_, _*_}
-use native.Mathlib.Nat.{add-zero}
+use native.Mathlib.Omega.{arith}
 use borrow.Author.Needs.{needs}
+use Rattle.chanest.proofs.Searching.{scattered-searchable}
 use Rattle.chanest.proofs.scattered_times.Statement.{statement}
 use Rattle.chanest.proofs.scattered_times.Tie as tie
 
-sub-before : tie.Need-sub-before
-sub-before c = search needs
-
-mul-before : tie.Need-mul-before
-mul-before c = search needs
-
-mul-times-at : tie.Need-mul-times-at
-mul-times-at c = search needs
+scattered-requires : tie.Need-scattered-requires
+scattered-requires c κs = search needs
 
 times-at-requires : tie.Need-times-at-requires
-times-at-requires c κs = search needs
+times-at-requires c κs = scattered-searchable _ (c .before .before .pre) (omega arith) (c .scattered .ensures)
 
-add-times-at : tie.Need-add-times-at
-add-times-at c = search needs
-
-mul-times-at-2 : tie.Need-mul-times-at-2
-mul-times-at-2 c = search needs
+scattered-requires-2 : tie.Need-scattered-requires-2
+scattered-requires-2 c κs = search needs
 
 times-at-requires-2 : tie.Need-times-at-requires-2
-times-at-requires-2 c κs = search needs
+times-at-requires-2 c κs = scattered-searchable _ (c .before .before .before .before .pre) (omega arith) (c .scattered2 .ensures)
 
-add-times-at-2 : tie.Need-add-times-at-2
-add-times-at-2 c = search needs
-
-mul-times-at-3 : tie.Need-mul-times-at-3
-mul-times-at-3 c = search needs
+scattered-requires-3 : tie.Need-scattered-requires-3
+scattered-requires-3 c κs = search needs
 
 times-at-requires-3 : tie.Need-times-at-requires-3
-times-at-requires-3 c κs = search needs
+times-at-requires-3 c κs =
+    let s = c .before .before .before .before .before .before in
+    scattered-searchable _ (s .pre) (omega arith) (c .scattered3 .ensures)
 
-add-times-at-3 : tie.Need-add-times-at-3
-add-times-at-3 c = search needs
-
-mul-times-at-4 : tie.Need-mul-times-at-4
-mul-times-at-4 c = search needs
+scattered-requires-4 : tie.Need-scattered-requires-4
+scattered-requires-4 c κs = search needs
 
 times-at-requires-4 : tie.Need-times-at-requires-4
-times-at-requires-4 c κs = search needs
+times-at-requires-4 c κs =
+    let s = c .before .before .before .before .before .before .before .before in
+    scattered-searchable _ (s .pre) (omega arith) (c .scattered4 .ensures)
 
 returns : tie.Need-returns
 returns c =
-    let e = add-zero (4 * (c .before .before .before .before .before .args .win .current .w - 1)) in
+    let a3 = c .before .before in
+    let a2 = a3 .before .before in
+    let a1 = a2 .before .before in
     record {
-      now = rw e (c .before .before .before .times-at .ensures);
-      one = c .before .before .times-at2 .ensures;
-      two = c .before .times-at3 .ensures;
-      three = c .times-at4 .ensures;
+      ago0 = rw (a1 .before .scattered .ensures) at (a1 .times-at .ensures);
+      ago1 = rw (a2 .before .scattered2 .ensures) at (a2 .times-at2 .ensures);
+      ago2 = rw (a3 .before .scattered3 .ensures) at (a3 .times-at3 .ensures);
+      ago3 = rw (c .before .scattered4 .ensures) at (c .times-at4 .ensures);
     }
 
 pub scattered-times-spec : {M : Type 1} → statement M
 scattered-times-spec =
     tie.close
     (tie.spec
-    sub-before
-    mul-before
-    mul-times-at
+    scattered-requires
     times-at-requires
-    add-times-at
-    mul-times-at-2
+    scattered-requires-2
     times-at-requires-2
-    add-times-at-2
-    mul-times-at-3
+    scattered-requires-3
     times-at-requires-3
-    add-times-at-3
-    mul-times-at-4
+    scattered-requires-4
     times-at-requires-4
     returns)

@@ -22,11 +22,11 @@ sub-skipped-2 c = search needs
 div-skipped : tie.Need-div-skipped
 div-skipped c = search needs
 
-skips : (c : lts.Joined1 reads.Pre reads.Post) → let a = c .before .args in Skipped (a .t) (a .before) (a .step) (c .if1 .skipped)
+skips : (c : lts.Joined1 reads.Pre reads.Post) → let a = c .before .before .args in Skipped (a .win) (a .at) (c .if1 .skipped)
 skips c =
     ⊎-elim
-    (λ w. rw (w .1) (skip-none _ _ _ (w .0 .taken)))
-    (λ w. rw (w .1) (skip-some _ _ _ (c .before .pre .forward) (w .0 .left)))
+    (λ w. rw (w .1) (skip-none _ _ (w .0 .taken)))
+    (λ w. rw (w .1) (skip-some _ _ (c .before .before .pre .forward) (w .0 .left)))
     (c .if1 .came)
 
 mul-first : tie.Need-mul-first
@@ -41,11 +41,11 @@ sub-first c = skips (c .before) .covered
 returns : tie.Need-returns
 returns c =
     let j = c .before .before in
-    let s = j .before in
+    let p = j .before .before .pre in
     let k = skips j in
     ⊎-elim
-    (λ w. all-before _ _ _ _ _ (s .pre) _ k (w .taken))
-    (λ w. all-behind _ _ _ _ _ (s .pre) _ k (w .0 .left) (leb-true _ _ (w .1 .taken)))
+    (λ w. all-before _ _ p _ k (w .taken))
+    (λ w. all-behind _ _ p _ k (w .0 .left) (leb-true _ _ (w .1 .taken)))
     (c .if2 .came)
 
 sub-left : tie.Need-sub-left
@@ -67,13 +67,15 @@ returns-2 : tie.Need-returns-2
 returns-2 c =
     let e = c .before .before in
     let j = e .before .before .before in
-    some-inside _ _ _ _ _ (j .before .pre) _ (skips j) _ (e .before .if2 .left) (leb-false _ _ (e .if3 .left)) (omega arith) (omega arith) (inl (omega arith))
+    some-inside _ _ (j .before .before .pre) _ (skips j) _ (e .before .if2 .left) (leb-false _ _ (e .if3 .left)) (omega arith) (omega arith)
+    (inl (omega arith))
 
 returns-3 : tie.Need-returns-3
 returns-3 c =
     let e = c .before .before in
     let j = e .before .before .before in
-    some-inside _ _ _ _ _ (j .before .pre) _ (skips j) _ (e .before .if2 .left) (leb-false _ _ (e .if3 .left)) (omega arith) (omega arith) (inr (omega arith))
+    some-inside _ _ (j .before .before .pre) _ (skips j) _ (e .before .if2 .left) (leb-false _ _ (e .if3 .left)) (omega arith) (omega arith)
+    (inr (omega arith))
 
 pub sent-in-spec : {M : Type 1} → statement M
 sent-in-spec =

@@ -1,24 +1,21 @@
--- `chanest::slope_sum` meets its contract: the sum so far is that of the first points, each leaning as the definition has it.
+-- `chanest::slope_sum` meets its contract: the points are summed in their order, each leaning as the definition has it.
 -- Assumes nothing.
-use Prim.Native.Nat.{_+_, _-_, _*_}
+use Prim.Native.Nat.{_-_}
+use mathlib.Core.Path.{_∙_}
 use native.Mathlib.Omega.{arith}
 use borrow.Author.Needs.{needs}
 use Rattle.complex.specs.Complex.{of32}
-use Rattle.chanest.specs.Line.{point, leaning}
-use Rattle.chanest.specs.Window.{offsetOf}
-use Rattle.chanest.specs.Inner.{valueIn}
-use Rattle.chanest.proofs.PairSums.{Summed, begin, further, done, term-is, slope-is}
+use Rattle.chanest.proofs.Searching.{inside-larger}
+use Rattle.chanest.proofs.Summing.{pairs, Summed, begin, further, done, leans, slope-is, term-is}
 use Rattle.chanest.proofs.slope_sum.Statement.{statement}
 use Rattle.chanest.proofs.slope_sum.Tie as tie
 
 abbrev Inv-loop : tie.InvT-loop
-Inv-loop win at middle spectra k inverse sent current sum₀ i₀ sum i =
-    Summed (λ j.
-    let s = at .sent .first + at .sent .step * j in
-    leaning (at .mean) (of32 middle) (point (offsetOf (win .current .index) s) (valueIn (win .len) spectra k inverse s))) (at .sent .count) i (of32 sum)
+Inv-loop win times middle spectra k inverse sent sum₀ i₀ sum i =
+    Summed pairs (leans win (times .sent) spectra k inverse (times .mean) (of32 middle)) (times .sent) i (of32 sum)
 
 abbrev μ-loop : tie.MeasureT-loop
-μ-loop win at middle spectra k inverse sent current sum₀ i₀ sum i = at .sent .count - i
+μ-loop win times middle spectra k inverse sent sum₀ i₀ sum i = times .sent .count - i
 
 new-requires : tie.Need-new-requires Inv-loop μ-loop
 new-requires c κs = search needs
@@ -26,34 +23,29 @@ new-requires c κs = search needs
 loop-holds : tie.Need-loop-holds Inv-loop μ-loop
 loop-holds c = begin _ _ _ (c .new .ensures)
 
-mul-s : tie.Need-mul-s Inv-loop μ-loop
-mul-s c =
-    let l = c .before .before .before in
-    let p = l .before .before .before .before .before .pre in
-    omega (arith, p .inside .inside (l .loop .i) (c .before .if1 .taken), p .spanned .few)
-
-add-s : tie.Need-add-s Inv-loop μ-loop
-add-s c =
-    let l = c .before .before .before .before in
-    let p = l .before .before .before .before .before .pre in
-    omega (arith, p .inside .inside (l .loop .i) (c .before .before .if1 .taken), p .spanned .few)
+spectrum-requires : tie.Need-spectrum-requires Inv-loop μ-loop
+spectrum-requires c κs =
+    let p = c .before .before .before .before .before .before .pre in
+    (inside-larger _ 1024 _ (p .spanned .few) (p .inside), c .if1 .taken)
 
 value-in-requires : tie.Need-value-in-requires Inv-loop μ-loop
 value-in-requires c κs =
-    let l = c .before .before .before .before in
-    let p = l .before .before .before .before .before .pre in
-    (p .spanned, p .carrier, p .inside .inside (l .loop .i) (c .before .before .if1 .taken))
+    let t = c .before in
+    let l = t .before .before in
+    let p = l .before .before .before .before .pre in
+    (p .spanned, p .carrier, rw (c .spectrum .ensures) (p .inside .inside (l .loop .i) (t .if1 .taken)))
 
 sub-requires : tie.Need-sub-requires Inv-loop μ-loop
 sub-requires c κs = search needs
 
 offset-requires : tie.Need-offset-requires Inv-loop μ-loop
 offset-requires c κs =
-    let t = c .before .before .before .before in
+    let s = c .before .before in
+    let t = s .before in
     let l = t .before .before in
-    let p = l .before .before .before .before .before .pre in
-    let s = p .inside .inside (l .loop .i) (t .if1 .taken) in
-    (omega (arith, p .spanned .current, p .spanned .few), omega (arith, s, p .spanned .few))
+    let p = l .before .before .before .before .pre in
+    let inside = p .inside .inside (l .loop .i) (t .if1 .taken) in
+    (omega (arith, p .spanned .current, p .spanned .few), omega (arith, s .spectrum .ensures, inside, p .spanned .few))
 
 scale-requires : tie.Need-scale-requires Inv-loop μ-loop
 scale-requires c κs = search needs
@@ -63,27 +55,28 @@ add-requires c κs = search needs
 
 add-i : tie.Need-add-i Inv-loop μ-loop
 add-i c =
-    let t = c .before .before .before .before .before .before .before .before in
-    let p = t .before .before .before .before .before .before .before .pre in
+    let t = c .before .before .before .before .before .before .before in
+    let p = t .before .before .before .before .before .before .pre in
     omega (arith, t .if1 .taken, p .inside .few, p .spanned .few)
 
 loop-less : tie.Need-loop-less Inv-loop μ-loop
-loop-less c = omega (arith, c .before .before .before .before .before .before .before .before .if1 .taken)
+loop-less c = omega (arith, c .before .before .before .before .before .before .before .if1 .taken)
 
 loop-again : tie.Need-loop-again Inv-loop μ-loop
 loop-again c =
     let o = c .before .before .before in
     let v = o .before .before in
-    let t = v .before .before .before in
-    let l = t .before .before in
-    further _ _ _ (l .loop .i) _ _ (l .loop .inv) (t .if1 .taken)
+    let s = v .before in
+    let t = s .before in
+    further _ _ _ (t .before .before .loop .inv) (t .if1 .taken) (s .spectrum .ensures)
     (term-is _ _ _ _ _ _ _ (v .value-in .ensures) (o .before .sub .ensures) (o .offset .ensures) (c .before .scale .ensures)) (c .add .ensures)
 
 returns : tie.Need-returns Inv-loop μ-loop
 returns c =
     let l = c .before .before in
-    let a = l .before .before .before .before .before .args in
-    slope-is (a .at .sent) _ (a .at .mean) (of32 (a .middle)) (a .win .len) (a .spectra .now) (a .win .current .index) (a .k) (a .inverse) (done _ _ _ (l .loop .i) (l .loop .inv) (c .if1 .left))
+    let a = l .before .before .before .before .args in
+    done _ _ _ (l .loop .inv) (c .if1 .left)
+    ∙ slope-is (a .win) (a .times .sent) (a .spectra .now) (a .k) (a .inverse) (a .times .mean) (of32 (a .middle))
 
 pub slope-sum-spec : {M : Type 1} → statement M
 slope-sum-spec =
@@ -93,8 +86,7 @@ slope-sum-spec =
     μ-loop
     new-requires
     loop-holds
-    mul-s
-    add-s
+    spectrum-requires
     value-in-requires
     sub-requires
     offset-requires

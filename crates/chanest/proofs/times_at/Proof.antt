@@ -10,10 +10,14 @@ sent-in-requires : tie.Need-sent-in-requires
 sent-in-requires c κs = search needs
 
 mean-offset-requires : tie.Need-mean-offset-requires
-mean-offset-requires c κs = (inside-larger _ 1024 _ (c .before .before .pre .few) (c .sent-in .ensures .inside), omega arith)
+mean-offset-requires c κs =
+    let p = c .before .pre in
+    (inside-larger _ 1024 _ (p .few) (c .sent-in .ensures .inside), omega (arith, p .current, p .few))
 
 spread-about-requires : tie.Need-spread-about-requires
-spread-about-requires c κs = (inside-larger _ 1024 _ (c .before .before .before .pre .few) (c .before .sent-in .ensures .inside), omega arith)
+spread-about-requires c κs =
+    let p = c .before .before .pre in
+    (inside-larger _ 1024 _ (p .few) (c .before .sent-in .ensures .inside), omega (arith, p .current, p .few))
 
 returns : tie.Need-returns
 returns c = search needs
