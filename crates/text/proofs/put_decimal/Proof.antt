@@ -4,7 +4,7 @@ use native.Mathlib.Omega.{arith}
 use borrow.Author.Tests.{lt-ltb, le-ltb}
 use lib.Dec.{lit≤}
 use Rattle.text.specs.Decimal.{decimal}
-use Rattle.text.specs.Put.{then}
+use Rattle.text.specs.Laws.{then}
 use Rattle.text.proofs.Numbered.{numbered}
 use borrow.Author.Needs.{needs}
 use Rattle.text.proofs.put_decimal.Statement.{statement}

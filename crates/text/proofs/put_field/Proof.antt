@@ -1,7 +1,7 @@
 -- `text::put_field` meets its contract: the digits and the comma are stored one behind the other.
 -- Assumes nothing.
 use native.Mathlib.Omega.{arith}
-use Rattle.text.specs.Put.{then}
+use Rattle.text.specs.Laws.{then}
 use borrow.Author.Needs.{needs}
 use Rattle.text.proofs.put_field.Statement.{statement}
 use Rattle.text.proofs.put_field.Tie as tie

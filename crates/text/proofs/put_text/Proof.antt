@@ -5,7 +5,8 @@ use mathlib.Core.Path.{_≡_, refl, sym}
 use native.Mathlib.Omega.{arith}
 use lib.ListN.{length, take}
 use lib.Seq.{take-all}
-use Rattle.text.specs.Put.{Put, then, put-none, put-as}
+use Rattle.text.specs.Put.{Put}
+use Rattle.text.specs.Laws.{then, put-none, put-as}
 use Rattle.text.proofs.Numbered.{take-more}
 use borrow.Author.Needs.{needs}
 use Rattle.text.proofs.put_text.Statement.{statement}
