@@ -3,6 +3,7 @@
 use Prim.Native.Nat.{ℕ, _+_, _*_, _-_, _<_}
 use mathlib.Core.List.{List, _++_}
 use mathlib.Core.Path.{_≡_, _∙_}
+use native.Mathlib.Nat.{add-zero}
 use native.Mathlib.Numerals.{add-one}
 use native.Mathlib.Omega.{arith}
 use lib.ListN.{getD}
@@ -16,19 +17,21 @@ use Rattle.ofdm.specs.Band.{segmentAt}
 use Rattle.ofdm.specs.Laws.{segment-ends}
 use Rattle.role_counts.specs.declared.KindCounts.{KindCounts}
 use Rattle.role_counts.specs.Counts.{kindCounts}
-use Rattle.segment_list.specs.Question.{countsLine}
-use Rattle.segment_list.specs.Question.{Answered, front, lineAt, line-parts}
-use Rattle.text.specs.Put.{Put, then, put-as}
+use Rattle.segment_list.specs.Question.{Answered, lineAt, lineHead, countsLine}
+use Rattle.segment_list.specs.Laws.{line-parts}
+use Rattle.text.specs.Put.{Put}
+use Rattle.text.specs.Laws.{then, put-as}
 
 pub joined-next : (f : ℕ → List ℕ) (n : ℕ) → joined f (range (n + 1)) ≡ joined f (range n) ++ f n
 joined-next f n = rw add-one (joined-range f n)
 
 -- a segment's first carrier has four digits at most
-pub carrier-few : (mode : Mode) (place c : ℕ) → place < 13 → c ≡ carriersPerSegment mode → place * c < 10000
-carrier-few mode place c h e = rw e (omega (arith, segment-ends mode place h, sized mode .band-high))
+pub carrier-few : (mode : Mode) (place carrier : ℕ) → place < 13 → carrier ≡ place * carriersPerSegment mode + 0 → carrier < 10000
+carrier-few mode place carrier h e = omega (arith, segment-ends mode place h, sized mode .band-high)
 
--- the front and the counts make the line of a segment
-pub segment-put : {out mid end : List ℕ} {at a r : ℕ} {k : KindCounts} (mode : Mode) (s : List ℕ) (place seg c : ℕ) (kind : SegmentKind)
-    → Answered s → place < 13 → seg ≡ segmentAt place → c ≡ carriersPerSegment mode → kind ≡ kindFrom (getD s (4 + seg) 0 - 67) → k ≡ kindCounts mode kind
-    → Put out at (front place seg (getD s (4 + seg) 0) (place * c)) a mid → Put mid a (countsLine k) r end → Put out at (lineAt mode s place) r end
-segment-put mode s place seg c kind q h es ec ek e p t = put-as (line-parts mode s place q h ∙ rw (e, ek, es, ec)) (then p t)
+-- the head and the counts make the line of a segment
+pub segment-put : {out mid end : List ℕ} {at a r : ℕ} {k : KindCounts} (mode : Mode) (s : List ℕ) (place seg carrier : ℕ) (kind : SegmentKind)
+    → Answered s → place < 13 → seg ≡ segmentAt place → carrier ≡ place * carriersPerSegment mode + 0
+    → kind ≡ kindFrom (getD s (4 + seg) 0 - 67) → k ≡ kindCounts mode kind
+    → Put out at (lineHead place seg (getD s (4 + seg) 0) carrier) a mid → Put mid a (countsLine k) r end → Put out at (lineAt mode s place) r end
+segment-put mode s place seg carrier kind q h es ec ek e p t = put-as (line-parts mode s place q h ∙ rw (e, ek, es, ec, add-zero)) (then p t)

@@ -9,7 +9,8 @@ use native.Mathlib.Omega.{arith}
 use lib.ListN.{length, getD, take}
 use lib.Seq.{slice, slice-empty, take-suc, drop-append-le, length-take-le}
 use Rattle.segment_list.specs.declared.Line.{Line}
-use Rattle.segment_list.specs.Feed.{Takes, Feeds, takes-none, takes-then}
+use Rattle.segment_list.specs.Feed.{Takes, Feeds}
+use Rattle.segment_list.specs.Fed.{takes-none, takes-then}
 
 module _ (input : List ℕ) (from : ℕ) where
   pub takes-start : (line : Line) (out : List ℕ) (at : ℕ) → Takes line (slice from from input) out at line at out

@@ -91,3 +91,8 @@ lastAnswer s = cond (eqb (length s) 0) [] (lineAnswer s)
 -- what `segments` prints for its whole input
 unfoldable pub segmentsPrints : List ℕ → List ℕ
 segmentsPrints input = printed [] input ++ lastAnswer (openAfter [] input)
+
+-- what a program prints that reads its input in turns: for each turn what its bytes print after the line that is open, at the end the last line
+unfoldable pub turnsPrint : List ℕ → List (List ℕ) → List ℕ
+turnsPrint s [] = lastAnswer s
+turnsPrint s (bytes ∷ turns) = printed s bytes ++ turnsPrint (openAfter s bytes) turns

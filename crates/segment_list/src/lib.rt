@@ -2,27 +2,32 @@
 // line for each of the thirteen segments, by place, and one for the edge; any other line is refused.
 //
 // Input comes in pieces of any length, and a line of any length is held in 17 bytes and a count.
-ghost use mathlib.Core.List.{List, [], _∷_, _++_};
+ghost use mathlib.Core.List.{[], _∷_};
 ghost use mathlib.Core.Path.{_≡_};
-ghost use Prim.Native.Nat.{ℕ, _<_, _≤_, _+_};
+ghost use Prim.Native.Nat.{_<_, _≤_, _+_};
 ghost use lib.Dec.{leb};
 ghost use lib.ListN.{length, drop};
 ghost use Rattle.lists.specs.Lists.{joined, range};
 ghost use Rattle.lists.specs.Tests.{allIn};
 ghost use Rattle.frame.specs.Roles.{between};
-ghost use Rattle.segment_list.specs.Text.{isKindLetter, isQuestion, edgeLine, refusedLine, lineCode, lineAnswer, lastAnswer};
 ghost use Rattle.role_counts.specs.Counts.{Few};
-ghost use Rattle.segment_list.specs.Question.{Answered, front, countsLine, lineAt};
-ghost use Rattle.segment_list.specs.Gather.{Gathers};
-ghost use Rattle.text.specs.Put.{Put};
+ghost use Rattle.text.specs.Put.{Put, PutCut};
+ghost use Rattle.segment_list.specs.Text.{isKindLetter, isQuestion, edgeLine, refusedLine, lineCode, lineAnswer, segmentsPrints};
+ghost use Rattle.segment_list.specs.Question.{Answered, lineHead, countsLine, lineAt};
+ghost use Rattle.segment_list.specs.Gather.{newLine, pushed, heldAnswer, heldLast};
 ghost use Rattle.segment_list.specs.Feed.{Takes, Feeds};
+use ofdm::BandCarrier;
 use ofdm::BandPlace;
+use ofdm::Segment;
+use ofdm::SegmentPlace;
 use params::Mode;
 use params::ModeNumber;
 use params::SegmentKind;
 use role_counts::KindCounts;
 use role_counts::kind_counts;
+use text::Fit;
 use text::put_byte;
+use text::put_cut;
 use text::put_decimal;
 use text::put_field;
 use text::put_text;
@@ -38,7 +43,7 @@ pub struct Line {
 
 impl Line {
     pub fn new() -> Line
-        ensures { λ r. ⌜ Gathers r [] ⌝ }
+        ensures { λ r. ⌜ r ≡ newLine ⌝ }
     {
         Line {
             bytes: [0; 17],
@@ -48,7 +53,7 @@ impl Line {
 
     // The line with a byte more.
     pub fn push(self, b: u8) -> Line
-        ensures { λ r. ⌜ ((s : List ℕ) → Gathers self s → Gathers r (s ++ (b ∷ []))) ⌝ }
+        ensures { λ r. ⌜ r ≡ pushed self b ⌝ }
     {
         let at = self.len;
         let mut next = self;
@@ -77,37 +82,38 @@ fn put_counts(out: &mut [u8], at: usize, k: KindCounts) -> usize
     put_byte(out, end, b'\n')
 }
 
-// The front of a segment's line: place, segment, kind, first carrier.
-fn put_front(
+// A segment's line up to its counts: place, segment, kind, first carrier.
+fn put_head(
     out: &mut [u8],
     at: usize,
-    place: usize,
-    seg: usize,
+    place: BandPlace,
+    seg: Segment,
     letter: u8,
-    carrier: usize,
+    carrier: BandCarrier,
 ) -> usize
-    requires { ⌜ (at + 13 ≤ length (now out)) × (place < 13) × (seg < 13) × (carrier < 10000) ⌝ }
-    ensures { λ r. ⌜ Put (now (out .entry)) at (front place seg letter carrier) r (now (out .exit)) ⌝ }
+    requires { ⌜ (at + 13 ≤ length (now out)) × (place .0 < 13) × (seg .0 < 13) × (carrier .0 < 10000) ⌝ }
+    ensures { λ r. ⌜ Put (now (out .entry)) at (lineHead (place .0) (seg .0) letter (carrier .0)) r (now (out .exit)) ⌝ }
     ensures { λ r. ⌜ r ≤ at + 13 ⌝ }
 {
-    let segment = put_field(out, at, place);
-    let kind = put_field(out, segment, seg);
+    let number = put_field(out, at, place.0);
+    let kind = put_field(out, number, seg.0);
     let comma = put_byte(out, kind, letter);
-    let first = put_byte(out, comma, b',');
-    put_field(out, first, carrier)
+    let lowest = put_byte(out, comma, b',');
+    put_field(out, lowest, carrier.0)
 }
 
 // The line of the segment at a place, for a question that is answered.
-fn put_segment(out: &mut [u8], at: usize, mode: Mode, s: &[u8], place: usize) -> usize
-    requires { ⌜ (at + 36 ≤ length (now out)) × (place < 13) × Answered (now s) ⌝ }
-    ensures { λ r. ⌜ Put (now (out .entry)) at (lineAt mode (now (s .entry)) place) r (now (out .exit)) ⌝ }
+fn put_segment(out: &mut [u8], at: usize, mode: Mode, s: &[u8], place: BandPlace) -> usize
+    requires { ⌜ (at + 36 ≤ length (now out)) × (place .0 < 13) × Answered (now s) ⌝ }
+    ensures { λ r. ⌜ Put (now (out .entry)) at (lineAt mode (now (s .entry)) (place .0)) r (now (out .exit)) ⌝ }
     ensures { λ r. ⌜ r ≤ at + 36 ⌝ }
 {
-    let seg = ofdm::segment_at_position(BandPlace(place)).0;
-    let letter = s[4 + seg];
+    let seg = ofdm::segment_at_position(place);
+    let number = seg.0;
+    let letter = s[4 + number];
     let kind = SegmentKind::from_code(letter - b'C');
-    let carrier = place * mode.carriers_per_segment();
-    let counts = put_front(out, at, place, seg, letter, carrier);
+    let carrier = ofdm::band_carrier(mode, place, SegmentPlace(0));
+    let counts = put_head(out, at, place, seg, letter, carrier);
     put_counts(out, counts, kind_counts(mode, kind))
 }
 
@@ -120,7 +126,7 @@ fn put_segments(out: &mut [u8], at: usize, mode: Mode, s: &[u8]) -> usize
     let mut to = at;
     let mut place: usize = 0;
     while place < 13 {
-        to = put_segment(out, to, mode, s, place);
+        to = put_segment(out, to, mode, s, BandPlace(place));
         place += 1;
     }
     to
@@ -239,10 +245,10 @@ fn put_answer(out: &mut [u8], at: usize, s: &[u8]) -> usize
     put_edge(out, edge, mode)
 }
 
-// Stores the answer to a line, and gives the index behind it.
+// Stores the answer to the line that is held, and gives the index behind it.
 pub fn answer_line(line: Line, out: &mut [u8], at: usize) -> usize
     requires { ⌜ at + 512 ≤ length (now out) ⌝ }
-    ensures { λ r. ⌜ ((s : List ℕ) → Gathers line s → Put (now (out .entry)) at (lineAnswer s) r (now (out .exit))) ⌝ }
+    ensures { λ r. ⌜ Put (now (out .entry)) at (heldAnswer line) r (now (out .exit)) ⌝ }
     ensures { λ r. ⌜ r ≤ at + 512 ⌝ }
 {
     let bytes = line.bytes;
@@ -256,7 +262,7 @@ pub fn answer_line(line: Line, out: &mut [u8], at: usize) -> usize
 // one.
 pub fn finish(line: Line, out: &mut [u8], at: usize) -> usize
     requires { ⌜ at + 512 ≤ length (now out) ⌝ }
-    ensures { λ r. ⌜ ((s : List ℕ) → Gathers line s → Put (now (out .entry)) at (lastAnswer s) r (now (out .exit))) ⌝ }
+    ensures { λ r. ⌜ Put (now (out .entry)) at (heldLast line) r (now (out .exit)) ⌝ }
     ensures { λ r. ⌜ r ≤ at + 512 ⌝ }
 {
     if line.len == 0 {
@@ -337,4 +343,35 @@ pub fn feed(line: Line, input: &[u8], from: usize, out: &mut [u8], at: usize) ->
         used: i,
         written: to,
     }
+}
+
+// Stores what `segments` prints for a whole input, by way of a buffer for one piece after another.
+fn answer_pieces(input: &[u8], piece: &mut [u8], out: &mut [u8]) -> Fit
+    requires { ⌜ 512 ≤ length (now piece) ⌝ }
+    ensures { λ r. ⌜ PutCut (now (out .entry)) 0 (segmentsPrints (now (input .entry))) r (now (out .exit)) ⌝ }
+{
+    let mut held = Line::new();
+    let mut from: usize = 0;
+    let mut to: usize = 0;
+    while from < input.len() {
+        let fed = feed(held, input, from, piece, 0);
+        let n = fed.written;
+        let Fit::Whole(next) = put_cut(out, to, &piece[..n]) else {
+            return Fit::Cut;
+        };
+        held = fed.line;
+        from = fed.used;
+        to = next;
+    }
+    let n = finish(held, piece, 0);
+    put_cut(out, to, &piece[..n])
+}
+
+// Stores what `segments` prints for a whole input, from the start of the buffer and as far as it
+// goes. The program does the same with input that it reads in turns.
+pub fn answer_all(input: &[u8], out: &mut [u8]) -> Fit
+    ensures { λ r. ⌜ PutCut (now (out .entry)) 0 (segmentsPrints (now (input .entry))) r (now (out .exit)) ⌝ }
+{
+    let mut piece = [0u8; ANSWER];
+    answer_pieces(input, &mut piece, out)
 }

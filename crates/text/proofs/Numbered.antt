@@ -8,7 +8,8 @@ use native.Mathlib.Omega.{arith}
 use lib.ListN.{length, getD, take}
 use lib.Seq.{take-suc}
 use Rattle.text.specs.Decimal.{decimal}
-use Rattle.text.specs.Put.{Put, put-as}
+use Rattle.text.specs.Put.{Put}
+use Rattle.text.specs.Laws.{put-as}
 
 pub numbered : {out out' s : List ℕ} {at r : ℕ} (n : ℕ) → Put out at s r out' → decimal n ≡ s → length s ≤ 4 → length s ≤ 1 + n / 10
     → Put out at (decimal n) r out' × ((r ≤ at + 4) × (r ≤ at + 1 + n / 10))

@@ -1,26 +1,25 @@
--- Text that is stored in a lent buffer, one piece behind another.
+-- Text that is stored in a lent buffer.
 -- Assumes nothing.
-use Prim.Native.Nat.{ℕ, _+_}
-use mathlib.Core.List.{List, [], _++_}
-use mathlib.Core.Path.{_≡_, refl, sym, ap, subst, _∙_}
-use native.Mathlib.Omega.{arith}
-use lib.ListN.{length, length-append}
+use Prim.Native.Nat.{ℕ, _+_, _-_}
+use mathlib.Core.Bool.{cond}
+use mathlib.Core.List.{List}
+use mathlib.Core.Path.{_≡_}
+use lib.Dec.{leb}
+use lib.ListN.{length, take}
 use lib.Seq.{sets}
-use Rattle.lists.specs.Fill.{sets-append}
+use Rattle.text.specs.declared.Fit.{Fit}
+use Rattle.text.specs.declared.Fit.the-variants.{Whole, Cut}
 
 -- out' is out with the text stored from index at on, and r is the index behind it
 pub record Put (out : List ℕ) (at : ℕ) (text : List ℕ) (r : ℕ) (out' : List ℕ) : Type 0 where
   pub stored : out' ≡ sets out at text
   pub next : r ≡ at + length text
 
-pub then : {out mid end : List ℕ} {at a b : ℕ} {s t : List ℕ} → Put out at s a mid → Put mid a t b end → Put out at (s ++ t) b end
-then {out} {mid} {end} {at} {a} {b} {s} {t} p q = record {
-  stored = q .stored ∙ (ap (λ (l : List ℕ). sets l a t) (p .stored) ∙ (ap (λ (k : ℕ). sets (sets out at s) k t) (p .next) ∙ sets-append s t out at));
-  next = rw length-append (omega arith);
-}
+-- whether a text that ends before index `end` has room
+unfoldable pub fitOf : ℕ → ℕ → Fit
+fitOf end room = cond (leb end room) (Whole end) Cut
 
-pub put-none : (out : List ℕ) (at : ℕ) → Put out at [] at out
-put-none out at = record { stored = refl; next = omega arith }
-
-pub put-as : {out end s t : List ℕ} {at r : ℕ} → t ≡ s → Put out at s r end → Put out at t r end
-put-as {out} {end} {s} {t} {at} {r} e p = subst (λ (l : List ℕ). Put out at l r end) (sym e) p
+-- the text is stored from index at on as far as out goes: r is the index behind all of it, or says that its end is cut off
+pub record PutCut (out : List ℕ) (at : ℕ) (text : List ℕ) (r : Fit) (out' : List ℕ) : Type 0 where
+  pub fit : r ≡ fitOf (at + length text) (length out)
+  pub stored : out' ≡ sets out at (take (length out - at) text)

@@ -4,7 +4,7 @@ ghost use mathlib.Core.List.{[], _∷_};
 ghost use Prim.Native.Nat.{_<_, _≤_, _+_, _/_};
 ghost use lib.ListN.{length};
 ghost use Rattle.text.specs.Decimal.{decimal, field};
-ghost use Rattle.text.specs.Put.{Put};
+ghost use Rattle.text.specs.Put.{Put, PutCut};
 
 // One byte of text.
 pub fn put_byte(out: &mut [u8], at: usize, b: u8) -> usize
@@ -69,4 +69,23 @@ pub fn put_text(out: &mut [u8], at: usize, text: &[u8]) -> usize
         i += 1;
     }
     to
+}
+
+// Text that a buffer takes as far as it goes: the index behind all of it, or that its end is cut off.
+pub enum Fit {
+    Whole(usize),
+    Cut,
+}
+
+// Text that is stored as far as the buffer goes.
+pub fn put_cut(out: &mut [u8], at: usize, text: &[u8]) -> Fit
+    requires { ⌜ at ≤ length (now out) ⌝ }
+    ensures { λ r. ⌜ PutCut (now (out .entry)) at (now (text .entry)) r (now (out .exit)) ⌝ }
+{
+    let room = out.len() - at;
+    if room < text.len() {
+        put_text(out, at, &text[..room]);
+        return Fit::Cut;
+    }
+    Fit::Whole(put_text(out, at, text))
 }

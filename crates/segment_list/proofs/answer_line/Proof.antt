@@ -1,12 +1,9 @@
--- `segment_list::answer_line` meets its contract: 17 bytes are held whole, and no line of another length is a question.
+-- `segment_list::answer_line` meets its contract: 17 bytes are answered, and a line of another length is refused.
 -- Assumes nothing.
-use mathlib.Core.Path.{_≡_, ap}
 use native.Mathlib.Omega.{arith}
-use lib.ListN.{length}
-use Rattle.segment_list.specs.Text.{lineAnswer}
-use Rattle.text.specs.Put.{put-as}
-use Rattle.segment_list.proofs.Answers.{other-length}
-use Rattle.segment_list.proofs.Gathered.{gathered-whole}
+use borrow.Author.Tests.{eq-eqb, ne-eqb}
+use Rattle.segment_list.specs.Gather.{heldAnswer}
+use Rattle.text.specs.Laws.{put-as}
 use borrow.Author.Needs.{needs}
 use Rattle.segment_list.proofs.answer_line.Statement.{statement}
 use Rattle.segment_list.proofs.answer_line.Tie as tie
@@ -18,7 +15,10 @@ same-length : tie.Need-same-length
 same-length c = search needs
 
 returns : tie.Need-returns
-returns c = (λ s g. put-as (other-length s (λ e. c .before .before .before .before .if1 .taken (omega (arith, g .count)))) (c .before .before .put-refused .ensures .0), c .before .before .put-refused .ensures .1)
+unfolding heldAnswer
+returns c =
+    let p = c .before .before in
+    (put-as (rw (ne-eqb _ _ (p .before .before .if1 .taken))) (p .put-refused .ensures .0), p .put-refused .ensures .1)
 
 slice-aggregate-put-answer : tie.Need-slice-aggregate-put-answer
 slice-aggregate-put-answer c = search needs
@@ -30,7 +30,10 @@ same-length-2 : tie.Need-same-length-2
 same-length-2 c = search needs
 
 returns-2 : tie.Need-returns-2
-returns-2 c = let size : length (c .before .before .before .before .before .before .before .before .before .args .line .bytes) ≡ 17 = search needs in (λ s g. put-as (ap lineAnswer (gathered-whole (c .before .before .before .before .before .before .before .before .before .args .line) 0 size s g (c .before .before .before .before .before .if1 .left))) (c .before .before .put-answer .ensures .0), c .before .before .put-answer .ensures .1)
+unfolding heldAnswer
+returns-2 c =
+    let p = c .before .before in
+    (put-as (rw (eq-eqb _ _ (p .before .before .before .if1 .left))) (p .put-answer .ensures .0), p .put-answer .ensures .1)
 
 pub answer-line-spec : {M : Type 1} → statement M
 answer-line-spec =

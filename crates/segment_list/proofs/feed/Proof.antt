@@ -18,7 +18,16 @@ abbrev μ-loop : tie.MeasureT-loop
 μ-loop input from out₀ at held₀ i₀ to₀ out held i to = length input - i
 
 loop-holds : tie.Need-loop-holds Inv-loop μ-loop
-loop-holds c = (refl, record { takes = takes-start (c .before .before .args .input .now) (c .before .before .args .from) _ _ _; onward = omega arith; within = omega arith; room = omega arith; moved = inr refl })
+loop-holds c =
+    let start = c .before .before in
+    (refl,
+    record {
+      takes = takes-start (start .args .input .now) (start .args .from) _ _ _;
+      onward = omega arith;
+      within = omega arith;
+      room = omega arith;
+      moved = inr refl;
+    })
 
 has-room-requires : tie.Need-has-room-requires Inv-loop μ-loop
 has-room-requires c κs = search needs
@@ -27,7 +36,10 @@ same-length : tie.Need-same-length Inv-loop μ-loop
 same-length c = c .before .before .before .loop .inv .0
 
 returns : tie.Need-returns Inv-loop μ-loop
-returns c = no-room (c .before .before .before .loop .inv .1) (omega (arith, leb-false (c .before .before .before .loop .to + 512) (length (c .before .before .before .loop .out)) (sym (c .before .has-room .ensures) ∙ not-true _ (c .if1 .taken))))
+returns c =
+    let l = c .before .before .before in
+    no-room (l .loop .inv .1)
+    (omega (arith, leb-false (l .loop .to + 512) (length (l .loop .out)) (sym (c .before .has-room .ensures) ∙ not-true _ (c .if1 .taken))))
 
 shared-slice-read-take-byte : tie.Need-shared-slice-read-take-byte Inv-loop μ-loop
 shared-slice-read-take-byte c = omega arith
@@ -42,7 +54,19 @@ loop-less : tie.Need-loop-less Inv-loop μ-loop
 loop-less c = omega arith
 
 loop-again : tie.Need-loop-again Inv-loop μ-loop
-loop-again c = (omega arith, record { takes = takes-more _ _ _ (c .before .before .before .before .before .before .before .before .before .loop .inv .1 .onward) (c .before .before .before .before .before .before .before .before .loop-test .taken) (c .before .before .before .before .before .before .before .before .before .loop .inv .1 .takes) (c .before .before .before .take-byte .ensures .0); onward = omega (arith, c .before .before .before .before .before .before .before .before .before .loop .inv .1 .onward); within = omega arith; room = omega (arith, c .before .before .before .take-byte .ensures .1, leb-true (c .before .before .before .before .before .before .before .before .before .loop .to + 512) (length (c .before .before .before .before .before .before .before .before .before .loop .out)) (sym (c .before .before .before .before .before .before .before .has-room .ensures) ∙ not-false _ (c .before .before .before .before .before .before .if1 .left))); moved = inl (omega (arith, c .before .before .before .before .before .before .before .before .before .loop .inv .1 .onward)) })
+loop-again c =
+    let t = c .before .before .before in
+    let i = t .before .before .before in
+    let l = i .before .before .before in
+    let room = leb-true (l .loop .to + 512) (length (l .loop .out)) (sym (i .before .has-room .ensures) ∙ not-false _ (i .if1 .left)) in
+    (omega arith,
+    record {
+      takes = takes-more _ _ _ (l .loop .inv .1 .onward) (i .before .before .loop-test .taken) (l .loop .inv .1 .takes) (t .take-byte .ensures .0);
+      onward = omega (arith, l .loop .inv .1 .onward);
+      within = omega arith;
+      room = omega (arith, t .take-byte .ensures .1, room);
+      moved = inl (omega (arith, l .loop .inv .1 .onward));
+    })
 
 same-length-2 : tie.Need-same-length-2 Inv-loop μ-loop
 same-length-2 c = c .before .loop .inv .0

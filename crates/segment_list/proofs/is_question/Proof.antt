@@ -26,7 +26,10 @@ shared-slice-read-if3 c = search needs
 
 returns-3 : tie.Need-returns-3
 unfolding isQuestion
-returns-3 c = simp (eq-eqb _ _ (c .before .before .before .before .before .if1 .left), sym (c .before .before .before .is-between .ensures) ∙ not-false _ (c .before .before .if2 .left), ne-eqb _ _ (c .if3 .taken))
+returns-3 c =
+    let d = c .before .before in
+    simp
+    (eq-eqb _ _ (d .before .before .before .if1 .left), sym (d .before .is-between .ensures) ∙ not-false _ (d .if2 .left), ne-eqb _ _ (c .if3 .taken))
 
 shared-slice-read-is-between-2 : tie.Need-shared-slice-read-is-between-2
 shared-slice-read-is-between-2 c = search needs
@@ -36,21 +39,47 @@ is-between-requires-2 c κs = search needs
 
 returns-4 : tie.Need-returns-4
 unfolding isQuestion
-returns-4 c = simp (eq-eqb _ _ (c .before .before .before .before .before .before .before .before .if1 .left), sym (c .before .before .before .before .before .before .is-between .ensures) ∙ not-false _ (c .before .before .before .before .before .if2 .left), eq-eqb _ _ (c .before .before .before .if3 .left), sym (c .before .is-between2 .ensures) ∙ not-true _ (c .if4 .taken))
+returns-4 c =
+    let k = c .before .before .before in
+    let d = k .before .before in
+    simp
+    (eq-eqb _ _ (d .before .before .before .if1 .left),
+    sym (d .before .is-between .ensures) ∙ not-false _ (d .if2 .left),
+    eq-eqb _ _ (k .if3 .left),
+    sym (c .before .is-between2 .ensures) ∙ not-true _ (c .if4 .taken))
 
 shared-slice-read-if5 : tie.Need-shared-slice-read-if5
 shared-slice-read-if5 c = search needs
 
 returns-5 : tie.Need-returns-5
 unfolding isQuestion
-returns-5 c = simp (eq-eqb _ _ (c .before .before .before .before .before .before .before .before .before .before .if1 .left), sym (c .before .before .before .before .before .before .before .before .is-between .ensures) ∙ not-false _ (c .before .before .before .before .before .before .before .if2 .left), eq-eqb _ _ (c .before .before .before .before .before .if3 .left), sym (c .before .before .before .is-between2 .ensures) ∙ not-false _ (c .before .before .if4 .left), ne-eqb _ _ (c .if5 .taken))
+returns-5 c =
+    let e = c .before .before in
+    let k = e .before .before .before in
+    let d = k .before .before in
+    simp
+    (eq-eqb _ _ (d .before .before .before .if1 .left),
+    sym (d .before .is-between .ensures) ∙ not-false _ (d .if2 .left),
+    eq-eqb _ _ (k .if3 .left),
+    sym (e .before .is-between2 .ensures) ∙ not-false _ (e .if4 .left),
+    ne-eqb _ _ (c .if5 .taken))
 
 are-kind-letters-requires : tie.Need-are-kind-letters-requires
 are-kind-letters-requires c κs = search needs
 
 returns-6 : tie.Need-returns-6
 unfolding isQuestion
-returns-6 c = simp (eq-eqb _ _ (c .before .before .before .before .before .before .before .before .before .before .before .if1 .left), sym (c .before .before .before .before .before .before .before .before .before .is-between .ensures) ∙ not-false _ (c .before .before .before .before .before .before .before .before .if2 .left), eq-eqb _ _ (c .before .before .before .before .before .before .if3 .left), sym (c .before .before .before .before .is-between2 .ensures) ∙ not-false _ (c .before .before .before .if4 .left), eq-eqb _ _ (c .before .if5 .left)) (c .are-kind-letters .ensures)
+returns-6 c =
+    let e = c .before .before .before in
+    let k = e .before .before .before in
+    let d = k .before .before in
+    simp
+    (eq-eqb _ _ (d .before .before .before .if1 .left),
+    sym (d .before .is-between .ensures) ∙ not-false _ (d .if2 .left),
+    eq-eqb _ _ (k .if3 .left),
+    sym (e .before .is-between2 .ensures) ∙ not-false _ (e .if4 .left),
+    eq-eqb _ _ (c .before .if5 .left))
+    (c .are-kind-letters .ensures)
 
 pub is-question-spec : {M : Type 1} → statement M
 is-question-spec =

@@ -3,7 +3,7 @@
 use native.Mathlib.Omega.{arith}
 use Rattle.params.specs.Laws.{sized}
 use Rattle.segment_list.specs.Text.{edgeLine}
-use Rattle.text.specs.Put.{then, put-as}
+use Rattle.text.specs.Laws.{then, put-as}
 use borrow.Author.Needs.{needs}
 use Rattle.segment_list.proofs.put_edge.Statement.{statement}
 use Rattle.segment_list.proofs.put_edge.Tie as tie
@@ -18,10 +18,15 @@ total-carriers-requires : tie.Need-total-carriers-requires
 total-carriers-requires c κs = search needs
 
 sub-put-field : tie.Need-sub-put-field
-sub-put-field c = omega (arith, c .total-carriers .ensures, sized (c .before .before .before .before .before .before .before .before .args .mode) .band)
+sub-put-field c =
+    let start = c .before .before .before .before .before .before .before .before in
+    omega (arith, c .total-carriers .ensures, sized (start .args .mode) .band)
 
 put-field-requires : tie.Need-put-field-requires
-put-field-requires c κs = (omega (arith, c .before .before .before .before .put-text .ensures .next), omega (arith, c .total-carriers .ensures, sized (c .before .before .before .before .before .before .before .before .args .mode) .band-high))
+put-field-requires c κs =
+    let t = c .before .before .before .before in
+    let start = t .before .before .before .before in
+    (omega (arith, t .put-text .ensures .next), omega (arith, c .total-carriers .ensures, sized (start .args .mode) .band-high))
 
 slice-aggregate-put-text-2 : tie.Need-slice-aggregate-put-text-2
 slice-aggregate-put-text-2 c = search needs
@@ -34,7 +39,13 @@ same-length c = search needs
 
 returns : tie.Need-returns
 unfolding edgeLine
-returns c = (put-as (rw (c .before .before .before .before .before .before .before .before .total-carriers .ensures)) (then (c .before .before .before .before .before .before .before .before .before .before .before .before .put-text .ensures) (then (c .before .before .before .before .before .before .before .put-field .ensures .0) (c .before .before .put-text2 .ensures))), omega (arith, c .before .before .before .before .before .before .before .before .before .before .before .before .put-text .ensures .next, c .before .before .before .before .before .before .before .put-field .ensures .1, c .before .before .put-text2 .ensures .next))
+returns c =
+    let z = c .before .before in
+    let f = z .before .before .before .before .before in
+    let n = f .before in
+    let t = n .before .before .before .before in
+    (put-as (rw (n .total-carriers .ensures)) (then (t .put-text .ensures) (then (f .put-field .ensures .0) (z .put-text2 .ensures))),
+    omega (arith, t .put-text .ensures .next, f .put-field .ensures .1, z .put-text2 .ensures .next))
 
 pub put-edge-spec : {M : Type 1} → statement M
 put-edge-spec =

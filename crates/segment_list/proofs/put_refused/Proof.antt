@@ -2,7 +2,7 @@
 -- Assumes nothing.
 use native.Mathlib.Omega.{arith}
 use Rattle.segment_list.specs.Text.{refusedLine}
-use Rattle.text.specs.Put.{then}
+use Rattle.text.specs.Laws.{then}
 use borrow.Author.Needs.{needs}
 use Rattle.segment_list.proofs.put_refused.Statement.{statement}
 use Rattle.segment_list.proofs.put_refused.Tie as tie
@@ -24,7 +24,12 @@ same-length c = search needs
 
 returns : tie.Need-returns
 unfolding refusedLine
-returns c = (then (c .before .before .before .before .before .before .before .before .before .before .put-text .ensures) (then (c .before .before .before .before .before .before .put-decimal .ensures .0) (c .before .before .put-byte .ensures)), omega (arith, c .before .before .before .before .before .before .before .before .before .before .put-text .ensures .next, c .before .before .before .before .before .before .put-decimal .ensures .1, c .before .before .put-byte .ensures .next))
+returns c =
+    let z = c .before .before in
+    let d = z .before .before .before .before in
+    let t = d .before .before .before .before in
+    (then (t .put-text .ensures) (then (d .put-decimal .ensures .0) (z .put-byte .ensures)),
+    omega (arith, t .put-text .ensures .next, d .put-decimal .ensures .1, z .put-byte .ensures .next))
 
 pub put-refused-spec : {M : Type 1} → statement M
 put-refused-spec =

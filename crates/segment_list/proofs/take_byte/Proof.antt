@@ -1,7 +1,10 @@
 -- `segment_list::take_byte` meets its contract: a line feed has the line answered, any other byte is gathered.
 -- Assumes nothing.
 use native.Mathlib.Omega.{arith}
-use Rattle.segment_list.specs.Feed.{takes-feed, takes-byte}
+use Rattle.segment_list.specs.Gather.{Gathers}
+use Rattle.segment_list.specs.Gathered.{gathers-new, gathers-pushed, answer-held}
+use Rattle.segment_list.specs.Fed.{takes-feed, takes-byte}
+use Rattle.text.specs.Laws.{put-as}
 use borrow.Author.Needs.{needs}
 use Rattle.segment_list.proofs.take_byte.Statement.{statement}
 use Rattle.segment_list.proofs.take_byte.Tie as tie
@@ -16,13 +19,19 @@ same-length : tie.Need-same-length
 same-length c = search needs
 
 returns : tie.Need-returns
-returns c = (takes-feed _ (c .before .before .before .before .before .if1 .taken) (c .before .before .before .answer-line .ensures .0) (c .new .ensures), c .before .before .before .answer-line .ensures .1)
+returns c =
+    let p = c .before .before .before in
+    let line = p .before .before .before .before .args .line in
+    (takes-feed _ (p .before .before .if1 .taken) (λ s g. put-as (answer-held line s g) (p .answer-line .ensures .0)) (rw (c .new .ensures) gathers-new),
+    p .answer-line .ensures .1)
 
 push-requires : tie.Need-push-requires
 push-requires c κs = search needs
 
 returns-2 : tie.Need-returns-2
-returns-2 c = (takes-byte _ (c .before .if1 .left) (c .push .ensures), omega arith)
+returns-2 c =
+    let line = c .before .before .before .args .line in
+    (takes-byte _ (c .before .if1 .left) (λ s g. rw (c .push .ensures) (gathers-pushed line s g _)), omega arith)
 
 pub take-byte-spec : {M : Type 1} → statement M
 take-byte-spec =

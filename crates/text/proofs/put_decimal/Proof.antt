@@ -4,7 +4,7 @@ use native.Mathlib.Omega.{arith}
 use borrow.Author.Tests.{lt-ltb, le-ltb}
 use lib.Dec.{lit≤}
 use Rattle.text.specs.Decimal.{decimal}
-use Rattle.text.specs.Put.{then}
+use Rattle.text.specs.Laws.{then}
 use Rattle.text.proofs.Numbered.{numbered}
 use borrow.Author.Needs.{needs}
 use Rattle.text.proofs.put_decimal.Statement.{statement}
@@ -18,7 +18,9 @@ same-length c = search needs
 
 returns : tie.Need-returns
 unfolding decimal
-returns c = numbered (c .before .before .before .before .before .before .args .n) (c .before .before .put-digit .ensures) (simp (lt-ltb _ _ (c .before .before .before .before .if1 .taken))) (lit≤ tt) (omega arith)
+returns c =
+    let s = c .before .before .before .before in
+    numbered (s .before .before .args .n) (c .before .before .put-digit .ensures) (simp (lt-ltb _ _ (s .if1 .taken))) (lit≤ tt) (omega arith)
 
 put-digit-requires-2 : tie.Need-put-digit-requires-2
 put-digit-requires-2 c κs = search needs
@@ -31,7 +33,13 @@ same-length-2 c = search needs
 
 returns-2 : tie.Need-returns-2
 unfolding decimal
-returns-2 c = numbered (c .before .before .before .before .before .before .before .before .before .before .before .args .n) (then (c .before .before .before .before .before .before .put-digit2 .ensures) (c .before .before .put-digit3 .ensures)) (simp (le-ltb _ _ (c .before .before .before .before .before .before .before .before .before .if1 .left), lt-ltb _ _ (c .before .before .before .before .before .before .before .before .if2 .taken))) (lit≤ tt) (omega (arith, c .before .before .before .before .before .before .before .before .before .if1 .left))
+returns-2 c =
+    let p = c .before .before .before .before .before .before in
+    let s = p .before .before in
+    numbered (s .before .before .before .args .n) (then (p .put-digit2 .ensures) (c .before .before .put-digit3 .ensures))
+    (simp (le-ltb _ _ (s .before .if1 .left), lt-ltb _ _ (s .if2 .taken)))
+    (lit≤ tt)
+    (omega (arith, s .before .if1 .left))
 
 put-digit-requires-4 : tie.Need-put-digit-requires-4
 put-digit-requires-4 c κs = search needs
@@ -47,7 +55,14 @@ same-length-3 c = search needs
 
 returns-3 : tie.Need-returns-3
 unfolding decimal
-returns-3 c = numbered (c .before .before .before .before .before .before .before .before .before .before .before .before .before .before .before .before .args .n) (then (c .before .before .before .before .before .before .before .before .before .before .put-digit4 .ensures) (then (c .before .before .before .before .before .before .put-digit5 .ensures) (c .before .before .put-digit6 .ensures))) (simp (le-ltb _ _ (c .before .before .before .before .before .before .before .before .before .before .before .before .before .before .if1 .left), le-ltb _ _ (c .before .before .before .before .before .before .before .before .before .before .before .before .before .if2 .left), lt-ltb _ _ (c .before .before .before .before .before .before .before .before .before .before .before .before .if3 .taken))) (lit≤ tt) (omega (arith, c .before .before .before .before .before .before .before .before .before .before .before .before .before .if2 .left))
+returns-3 c =
+    let q = c .before .before .before .before .before .before in
+    let p = q .before .before .before .before in
+    let s = p .before .before in
+    numbered (s .before .before .before .before .args .n) (then (p .put-digit4 .ensures) (then (q .put-digit5 .ensures) (c .before .before .put-digit6 .ensures)))
+    (simp (le-ltb _ _ (s .before .before .if1 .left), le-ltb _ _ (s .before .if2 .left), lt-ltb _ _ (s .if3 .taken)))
+    (lit≤ tt)
+    (omega (arith, s .before .if2 .left))
 
 put-digit-requires-7 : tie.Need-put-digit-requires-7
 put-digit-requires-7 c κs = search needs
@@ -66,7 +81,16 @@ same-length-4 c = search needs
 
 returns-4 : tie.Need-returns-4
 unfolding decimal
-returns-4 c = numbered (c .before .before .before .before .before .before .before .before .before .before .before .before .before .before .before .before .before .before .before .before .args .n) (then (c .before .before .before .before .before .before .before .before .before .before .before .before .before .before .put-digit7 .ensures) (then (c .before .before .before .before .before .before .before .before .before .before .put-digit8 .ensures) (then (c .before .before .before .before .before .before .put-digit9 .ensures) (c .before .before .put-digit10 .ensures)))) (simp (le-ltb _ _ (c .before .before .before .before .before .before .before .before .before .before .before .before .before .before .before .before .before .before .if1 .left), le-ltb _ _ (c .before .before .before .before .before .before .before .before .before .before .before .before .before .before .before .before .before .if2 .left), le-ltb _ _ (c .before .before .before .before .before .before .before .before .before .before .before .before .before .before .before .before .if3 .left))) (lit≤ tt) (omega (arith, c .before .before .before .before .before .before .before .before .before .before .before .before .before .before .before .before .if3 .left))
+returns-4 c =
+    let t = c .before .before .before .before .before .before in
+    let q = t .before .before .before .before in
+    let p = q .before .before .before .before in
+    let s = p .before .before in
+    numbered (s .before .before .before .before .args .n)
+    (then (p .put-digit7 .ensures) (then (q .put-digit8 .ensures) (then (t .put-digit9 .ensures) (c .before .before .put-digit10 .ensures))))
+    (simp (le-ltb _ _ (s .before .before .if1 .left), le-ltb _ _ (s .before .if2 .left), le-ltb _ _ (s .if3 .left)))
+    (lit≤ tt)
+    (omega (arith, s .if3 .left))
 
 pub put-decimal-spec : {M : Type 1} → statement M
 put-decimal-spec =

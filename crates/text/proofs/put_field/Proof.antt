@@ -1,7 +1,7 @@
 -- `text::put_field` meets its contract: the digits and the comma are stored one behind the other.
 -- Assumes nothing.
 use native.Mathlib.Omega.{arith}
-use Rattle.text.specs.Put.{then}
+use Rattle.text.specs.Laws.{then}
 use borrow.Author.Needs.{needs}
 use Rattle.text.proofs.put_field.Statement.{statement}
 use Rattle.text.proofs.put_field.Tie as tie
@@ -16,7 +16,10 @@ same-length : tie.Need-same-length
 same-length c = search needs
 
 returns : tie.Need-returns
-returns c = (then (c .before .before .before .before .before .before .put-decimal .ensures .0) (c .before .before .put-byte .ensures), (omega (arith, c .before .before .before .before .before .before .put-decimal .ensures, c .before .before .put-byte .ensures .next), omega (arith, c .before .before .before .before .before .before .put-decimal .ensures, c .before .before .put-byte .ensures .next)))
+returns c =
+    let d = c .before .before .before .before .before .before .put-decimal .ensures in
+    let e = c .before .before .put-byte .ensures in
+    (then (d .0) e, (omega (arith, d, e .next), omega (arith, d, e .next)))
 
 pub put-field-spec : {M : Type 1} → statement M
 put-field-spec = tie.close (tie.spec put-decimal-requires put-byte-requires same-length returns)

@@ -5,7 +5,8 @@ use mathlib.Core.Path.{_≡_, refl, sym}
 use native.Mathlib.Omega.{arith}
 use lib.ListN.{length, take}
 use lib.Seq.{take-all}
-use Rattle.text.specs.Put.{Put, then, put-none, put-as}
+use Rattle.text.specs.Put.{Put}
+use Rattle.text.specs.Laws.{then, put-none, put-as}
 use Rattle.text.proofs.Numbered.{take-more}
 use borrow.Author.Needs.{needs}
 use Rattle.text.proofs.put_text.Statement.{statement}
@@ -33,7 +34,13 @@ loop-less : tie.Need-loop-less Inv-loop μ-loop
 loop-less c = omega arith
 
 loop-again : tie.Need-loop-again Inv-loop μ-loop
-loop-again c = (omega arith, omega arith, omega (arith, c .before .before .put-byte .ensures .next), put-as (take-more _ _ (c .before .before .before .before .before .loop-test .taken)) (then (c .before .before .before .before .before .before .loop .inv .3) (c .before .before .put-byte .ensures)))
+loop-again c =
+    let b = c .before .before in
+    let l = b .before .before .before in
+    (omega arith,
+    omega arith,
+    omega (arith, b .put-byte .ensures .next),
+    put-as (take-more _ _ (l .loop-test .taken)) (then (l .before .loop .inv .3) (b .put-byte .ensures)))
 
 same-length : tie.Need-same-length Inv-loop μ-loop
 same-length c = c .before .loop .inv .1
