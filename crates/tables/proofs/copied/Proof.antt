@@ -66,7 +66,8 @@ loop-less c = omega arith
 loop-again : tie.Need-loop-again Inv-loop μ-loop
 loop-again c =
     let now = c .before .before .loop in
-    (omega arith, omega arith, simp length-set (now .inv .2), fill-again (entry (c .before .before .before .args .row .now)) (replicate 20 0) _ _ _ (now .inv .3) refl (omega arith))
+    let row = c .before .before .before .args .row .now in
+    (omega arith, omega arith, simp length-set (now .inv .2), fill-again (entry row) (replicate 20 0) _ _ _ (now .inv .3) refl (omega arith))
 
 returns : tie.Need-returns Inv-loop μ-loop
 returns c = let now = c .before .loop in whole (c .before .before .args .row .now) (now .places) (now .i) (omega arith) (now .inv .3)
