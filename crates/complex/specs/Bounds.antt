@@ -3,8 +3,9 @@
 -- and for each a law with no test left to make. A gain beyond the bound is refused where a level is no longer roomy.
 -- Assumes nothing.
 use mathlib.Core.List.{List}
+use mathlib.Core.Logic.{_⊎_, inl, inr}
 use mathlib.Core.Path.{_≡_, refl, sym, subst}
-use Prim.Native.Nat.{ℕ, _*_, _≤_}
+use Prim.Native.Nat.{ℕ, zero, suc, _*_, _≤_}
 use native.Mathlib.Omega.{arith}
 use lib.Dec.{T, lit<, lit≤}
 use lib.ListN.{length}
@@ -17,7 +18,8 @@ use Rattle.ieee.specs.Sums.{total, prefixes, Each, total-scaled, prefixes-scale
 use Rattle.ieee.specs.Times.{lt-times, quotient-times}
 use Rattle.complex.specs.Changes.{most, WholePair, amplified}
 use Rattle.complex.specs.Complex.{Pair, pair, product, conjugate, squaredSize, scaled, norm32, norm64}
-use Rattle.complex.specs.Gains.{BothScaled, twoProducts, normLevel, product-scaled, size-scaled, conjugate-scaled, factor-scaled, norm32-scaled, norm64-scaled}
+use Rattle.complex.specs.Gains.{BothScaled, twoProducts, normLevel, product-scaled, size-scaled, conjugate-scaled}
+use Rattle.complex.specs.Gains.{factor-scaled, norm32-scaled, norm64-scaled}
 use Rattle.complex.specs.Totals.{totals, totals-scaled}
 
 -- +0.0 is at every level
@@ -33,6 +35,11 @@ origin-at f l k = record { re = zero-at f l k; im = zero-at f l k }
 -- above +0.0 or not is the same of both
 pub above-zero-gain : (f : Format) (l : Level) (k : ℕ) (x y : Float) → Scaled l k x y → lt (plusZero f) x ≡ lt (plusZero f) y
 above-zero-gain f l k x y h = lt-times (l .power * k) _ _ x y (times-of k l _ _ (zero-at f l k)) (times-of k l x y h)
+
+-- ---- a gain that may be spoken of: none, or one up to 256 where W holds. What holds of both holds of it
+pub gain-cases : {W : Type 0} (P : ℕ → Type 0) (k : ℕ) → (k ≡ 0) ⊎ ((k ≤ most) × W) → P 0 → ((j : ℕ) → suc j ≤ most → W → P (suc j)) → P k
+gain-cases P zero A none some = none
+gain-cases P (suc j) A none some = elim A [ inl z ↦ absurd (omega arith) | inr w ↦ some j (w .0) (w .1) ]
 
 -- ---- the parts of spectra and samples
 abbrev pub partLevel : Level

@@ -36,10 +36,8 @@ totals-parts f s (x ∷ xs) = totals-parts f (plus f s x) xs
 pub totals-scaled : (f : Format) (top k m n : ℕ) (l : Level) (s t : Pair) (xs ys : List Pair) → k ≤ top → T (roomy f top (many n l)) → m + length xs ≤ n
     → BothScaled (many m l) k s t → Each (BothScaled l k) xs ys → BothScaled (many n l) k (totals f s xs) (totals f t ys)
 totals-scaled f top k m n l s t xs ys K R N h g =
-    let few : (p : Pair → Float) → m + length (map p xs) ≤ n = λ p. rw length-map N in
-    let each : (p : Pair → Float) → ((x y : Pair) → BothScaled l k x y → Scaled l k (p x) (p y)) → Each (Scaled l k) (map p xs) (map p ys) = λ p q. each-map (BothScaled l k) (Scaled l k) p q xs ys g in
+    let part : (p : Pair → Float) → ((x y : Pair) → BothScaled l k x y → Scaled l k (p x) (p y)) → (a b : Float) → Scaled (many m l) k a b
+    → Scaled (many n l) k (total f a (map p xs)) (total f b (map p ys)) =
+    λ p q a b c. total-scaled f top k m n l a b (map p xs) (map p ys) K R (rw length-map N) c (each-map (BothScaled l k) (Scaled l k) p q xs ys g) in
     rw (totals-parts f s xs, totals-parts f t ys)
-    (record {
-      re = total-scaled f top k m n l _ _ (reals xs) (reals ys) K R (few (λ (x : Pair). x .re)) (h .re) (each (λ (x : Pair). x .re) (λ x y b. b .re));
-      im = total-scaled f top k m n l _ _ (imaginaries xs) (imaginaries ys) K R (few (λ (x : Pair). x .im)) (h .im) (each (λ (x : Pair). x .im) (λ x y b. b .im));
-    })
+    (record { re = part (λ (x : Pair). x .re) (λ x y b. b .re) _ _ (h .re); im = part (λ (x : Pair). x .im) (λ x y b. b .im) _ _ (h .im) })

@@ -3,13 +3,13 @@
 -- but for the sign of a zero (`Alike`), and squares do not see that.
 -- Assumes nothing.
 use mathlib.Core.Bool.{Bool, true, false}
-use mathlib.Core.Path.{_≡_, refl, ap, _∙_}
+use mathlib.Core.Path.{_≡_, refl, ap, _∙_, subst}
 use lib.Ieee.{Float, Format, binary64, unlike, neg, add, sub, mul}
 use Rattle.ieee.specs.Narrow.{narrowOf}
 use Rattle.ieee.specs.Root.{rootOf}
 use Rattle.ieee.specs.Signs.{plus-comm, times-neg, times-neg-r, times-neg-neg, neg-neg, flip, times-flip, times-flip-both, square-flip, neg-flip}
 use Rattle.ieee.specs.Zeros.{canon, plus-flip, plus-alike, times-alike, square-alike}
-use Rattle.complex.specs.Changes.{turned, negated}
+use Rattle.complex.specs.Changes.{negated, turned, turnIf}
 use Rattle.complex.specs.Complex.{Pair, pair, product, conjugate, squaredSize, scaled, norm64, norm32}
 
 -- equal but for the sign of a zero
@@ -88,6 +88,29 @@ negated-size f b x = alike-size f b (negated b x) x (record { re = refl; im = re
 pub conjugate-size : (f : Format) (x : Pair) → squaredSize f (conjugate x) ≡ squaredSize f x
 conjugate-size f x = ap (λ (z : Float). add f (mul f (x .re) (x .re)) z) (times-neg-neg f (x .im) (x .im))
 
+-- ---- a value changed as demand 3 changes it: negated or not, turned by a quarter or not. Where two values are changed alike, the product of
+-- one with the conjugate of the other is the same bit for bit, and so is the squared size of each; where they are turned alike and their signs
+-- differ, the product is the same but for its sign and the sign of a zero.
+pub changed-product : (f : Format) (s t : Bool) (x y : Pair)
+    → product f (negated s (turnIf t x)) (conjugate (negated s (turnIf t y))) ≡ product f x (conjugate y)
+changed-product f s true x y = both-negated-product f s (turned x) (turned y) ∙ turned-product f x y
+changed-product f s false x y = both-negated-product f s x y
+
+pub changed-product-alike : (f : Format) (a b t : Bool) (x y : Pair)
+    → Alike (product f (negated a (turnIf t x)) (conjugate (negated b (turnIf t y)))) (negated (unlike a b) (product f x (conjugate y)))
+changed-product-alike f a b true x y =
+    subst (λ (p : Pair). Alike (product f (negated a (turned x)) (conjugate (negated b (turned y)))) (negated (unlike a b) p)) (turned-product f x y)
+    (negated-product f a b (turned x) (turned y))
+changed-product-alike f a b false x y = negated-product f a b x y
+
+pub changed-size : (f : Format) (s t : Bool) (x : Pair) → squaredSize f (negated s (turnIf t x)) ≡ squaredSize f x
+changed-size f s true x = negated-size f s (turned x) ∙ turned-size f x
+changed-size f s false x = negated-size f s x
+
+pub changed-scaled : (f : Format) (s t : Bool) (x : Pair) (r : Float) → scaled f (negated s (turnIf t x)) r ≡ negated s (turnIf t (scaled f x r))
+changed-scaled f s true x r = negated-scaled f s (turned x) r ∙ ap (negated s) (turned-scaled f x r)
+changed-scaled f s false x r = negated-scaled f s x r
+
 -- ---- so the norms are the same, bit for bit, wherever the squared sizes are
 pub norm32-is : (x : Pair) → norm32 x ≡ narrowOf (rootOf (squaredSize binary64 x))
 unfolding norm32 norm64
@@ -100,3 +123,9 @@ norm64-same x y h = ap rootOf h
 pub norm32-same : (x y : Pair) → squaredSize binary64 x ≡ squaredSize binary64 y → norm32 x ≡ norm32 y
 unfolding norm32
 norm32-same x y h = ap narrowOf (norm64-same x y h)
+
+pub changed-norm32 : (s t : Bool) (x : Pair) → norm32 (negated s (turnIf t x)) ≡ norm32 x
+changed-norm32 s t x = norm32-same (negated s (turnIf t x)) x (changed-size binary64 s t x)
+
+pub changed-norm64 : (s t : Bool) (x : Pair) → norm64 (negated s (turnIf t x)) ≡ norm64 x
+changed-norm64 s t x = norm64-same (negated s (turnIf t x)) x (changed-size binary64 s t x)

@@ -39,7 +39,7 @@ map-upTo g f zero = refl
 map-upTo g f (suc n) = rw (map-append g (upTo f n) (f n ∷ []), map-upTo g f n)
 
 -- a list is the values of its own lookup
-upTo-getD : (xs : List ℕ) → upTo (λ (i : ℕ). getD xs i 0) (length xs) ≡ xs
+pub upTo-getD : (xs : List ℕ) → upTo (λ (i : ℕ). getD xs i 0) (length xs) ≡ xs
 upTo-getD xs =
     ext-getD 0 _ xs (length-upTo _ (length xs)) (λ i h.
     getD-upTo _ (length xs) i 0 (rw (length-upTo (λ i. getD xs i 0) (length xs)) at h))

@@ -1,6 +1,6 @@
 -- Document 01's codes of modes, guards and kinds, and its sizes of a mode (ARIB STD-B31, Tables 3-1 and 3-2).
 -- Assumes nothing.
-use Prim.Native.Nat.{ℕ, _/_}
+use Prim.Native.Nat.{ℕ}
 use mathlib.Core.Bool.{cond}
 use lib.Dec.{eqb}
 use Rattle.params.specs.declared.Mode.{Mode}
@@ -60,10 +60,6 @@ guardFrom d =
     (cond (eqb d 16) (guard-denominator.Known G1_16)
     (cond (eqb d 32) (guard-denominator.Known G1_32)
     guard-denominator.Unknown)))
-
--- the part of the symbol that the guard repeats
-abbrev pub guardSamples : GuardInterval → Mode → ℕ
-guardSamples g m = fftSize m / denominatorOf g
 
 abbrev pub kindCode : SegmentKind → ℕ
 kindCode Coherent = 0

@@ -3,10 +3,8 @@
 //
 // A code from outside becomes an enum once, at the border; behind it a wrong code cannot occur.
 ghost use mathlib.Core.Path.{_≡_};
-ghost use Rattle.params.specs.Params.{modeNumber, modeFrom, carriersPerSegment, dataCarriersPerSegment, totalCarriers, fftSize, denominatorOf, guardFrom, guardSamples, kindCode, kindFrom};
-
-// The segments of the band (Table 3-2, Ns).
-pub const SEGMENTS: usize = 13;
+ghost use Rattle.params.specs.Params.{modeNumber, modeFrom, denominatorOf, guardFrom, kindCode, kindFrom};
+ghost use Rattle.params.specs.Params.{carriersPerSegment, dataCarriersPerSegment, totalCarriers, fftSize};
 
 // System mode.
 pub enum Mode {
@@ -129,13 +127,6 @@ impl GuardInterval {
             32 => GuardDenominator::Known(GuardInterval::G1_32),
             _ => GuardDenominator::Unknown,
         }
-    }
-
-    // Samples of the guard in a mode.
-    pub fn samples(self, mode: Mode) -> usize
-        ensures { λ r. ⌜ r ≡ guardSamples self mode ⌝ }
-    {
-        mode.fft_size() / self.denominator()
     }
 }
 

@@ -1,12 +1,12 @@
 -- The places of a segment that carry pilots, TMCC, AC1 and AC2, by mode, kind, row and phase (ARIB STD-B31, Figures 3-29 and 3-30,
 -- Tables 3-14 and 3-15).
 -- Assumes nothing.
-use Prim.Native.Nat.{ℕ, _+_, _*_, _%_}
+use Prim.Native.Nat.{ℕ, _+_, _-_, _*_, _%_}
 use mathlib.Core.Bool.{Bool, false, cond}
 use mathlib.Core.List.{List, []}
 use mathlib.Core.Path.{_≡_}
 use lib.Dec.{eqb}
-use lib.ListN.{length, getD, take}
+use lib.ListN.{length, getD, take, drop, replicate}
 use Rattle.lists.specs.Tests.{memb}
 use Rattle.params.specs.declared.Mode.{Mode}
 use Rattle.params.specs.declared.SegmentKind.{SegmentKind}
@@ -14,10 +14,11 @@ use Rattle.params.specs.declared.SegmentKind.the-variants.{Coherent, Differenti
 use Rattle.tables.specs.declared.Positions.{Positions}
 use Rattle.tables.specs.Rows.{diffAc1, diffAc2, diffTmcc, cohAc1, cohTmcc, prbsInit}
 
--- the code's row r holds the places xs and nothing else
+-- the code's row r holds the places xs, and zeros behind them
 pub record Listed (r : Positions) (xs : List ℕ) : Type 0 where
   pub places : take (r .count) (r .places) ≡ xs
   pub count : r .count ≡ length xs
+  pub beyond : drop (r .count) (r .places) ≡ replicate (20 - r .count) 0
 
 abbrev pub tmccOf : Mode → SegmentKind → ℕ → List ℕ
 tmccOf mode Coherent row = getD (cohTmcc mode) row []

@@ -1,14 +1,11 @@
 -- Each randomising table sends the data carriers of a segment one to one onto themselves: sorted, it reads 0, 1, .. nc - 1.
 -- Assumes nothing.
-use Prim.Native.Nat.{ℕ, _<_}
+use Prim.Native.Nat.{ℕ}
 use mathlib.Core.Bool.{Bool, true, false, cond}
 use mathlib.Core.List.{List, [], _∷_, Perm, Perm·refl, Perm·nil, Perm·cons, Perm·swap, Perm·trans}
 use mathlib.Core.Path.{_≡_, refl}
-use borrow.Author.Tests.{ltb-true}
-use lib.Dec.{leb, ltb}
-use lib.ListN.{length, getD}
+use lib.Dec.{leb}
 use Rattle.lists.specs.Lists.{range}
-use Rattle.lists.specs.Tests.{allIn, allIn-at}
 use Rattle.params.specs.declared.Mode.{Mode}
 use Rattle.params.specs.declared.Mode.the-variants.{M1, M2, M3}
 use Rattle.params.specs.Params.{dataCarriersPerSegment}
@@ -45,19 +42,3 @@ in-order M3 = refl
 -- the table of a mode is a permutation of 0, 1, .. nc - 1
 pub randomized : (mode : Mode) → Perm (carrierRandomize mode) (range (dataCarriersPerSegment mode))
 randomized mode = rw in-order at (rearranged (carrierRandomize mode))
-
--- it has an entry for each data carrier
-pub randomize-length : (mode : Mode) → length (carrierRandomize mode) ≡ dataCarriersPerSegment mode
-randomize-length M1 = refl
-randomize-length M2 = refl
-randomize-length M3 = refl
-
-all-below : (mode : Mode) → allIn (λ x. ltb x (dataCarriersPerSegment mode)) (carrierRandomize mode) ≡ true
-all-below M1 = refl
-all-below M2 = refl
-all-below M3 = refl
-
--- each entry is the number of a data carrier
-pub randomize-below : (mode : Mode) (i : ℕ) → i < length (carrierRandomize mode) → getD (carrierRandomize mode) i 0 < dataCarriersPerSegment mode
-randomize-below mode i h =
-    ltb-true _ _ (allIn-at (λ x. ltb x (dataCarriersPerSegment mode)) (carrierRandomize mode) (all-below mode) i h)

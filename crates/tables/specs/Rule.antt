@@ -36,8 +36,8 @@ fits mode xs = inside mode xs && short xs
 abbrev othersTest : Mode → SegmentKind → ℕ → Bool
 othersTest mode kind row = fits mode (ac1Of mode kind row) && fits mode (ac2Of mode kind row)
 
-abbrev rowTest : Mode → SegmentKind → ℕ → Bool
-rowTest mode kind row = fits mode (tmccOf mode kind row) && othersTest mode kind row
+abbrev fitsTest : Mode → SegmentKind → ℕ → Bool
+fitsTest mode kind row = fits mode (tmccOf mode kind row) && othersTest mode kind row
 
 -- how often x stands in the list
 abbrev occurs : ℕ → List ℕ → ℕ
@@ -64,7 +64,7 @@ sizeTest mode kind phase xs =
 abbrev claimsTest : Mode → SegmentKind → ℕ → ℕ → Bool
 claimsTest mode kind row phase = onceTest kind phase (entriesOf mode kind row) && sizeTest mode kind phase (entriesOf mode kind row)
 
-rows-tested : (mode : Mode) (kind : SegmentKind) → allBelow (rowTest mode kind) 13 ≡ true
+rows-tested : (mode : Mode) (kind : SegmentKind) → allBelow (fitsTest mode kind) 13 ≡ true
 rows-tested M1 Coherent = refl
 rows-tested M1 Differential = refl
 rows-tested M2 Coherent = refl
@@ -93,21 +93,21 @@ occurs-append x (y ∷ xs) ys = rw (occurs-append x xs ys) (omega arith)
 
 memb-occurs : (x : ℕ) (xs : List ℕ) → occurs x xs ≤ 1 → one (memb x xs) ≡ occurs x xs
 memb-occurs x [] h = refl
-memb-occurs x (y ∷ ys) h = first (eqb y x) h (λ l. memb-occurs x ys l)
+memb-occurs x (y ∷ ys) h = by-head (eqb y x) h (λ l. memb-occurs x ys l)
   where
-    first : (b : Bool) → one b + occurs x ys ≤ 1 → (occurs x ys ≤ 1 → one (memb x ys) ≡ occurs x ys)
+    by-head : (b : Bool) → one b + occurs x ys ≤ 1 → (occurs x ys ≤ 1 → one (memb x ys) ≡ occurs x ys)
         → one (b || memb x ys) ≡ one b + occurs x ys
-    first true h r = omega arith
-    first false h r = omega (arith, r (omega arith))
+    by-head true h r = omega arith
+    by-head false h r = omega (arith, r (omega arith))
 
 -- what every entry passes, a number passes too, or it is none of them
 absent-or-passes : (f : ℕ → Bool) (xs : List ℕ) → allIn f xs ≡ true → (x : ℕ) → (occurs x xs ≡ 0) ⊎ (f x ≡ true)
 absent-or-passes f [] e x = inl refl
-absent-or-passes f (y ∷ ys) e x = first (eqb y x) refl (absent-or-passes f ys (both-right (f y) (allIn f ys) e) x)
+absent-or-passes f (y ∷ ys) e x = by-head (eqb y x) refl (absent-or-passes f ys (both-right (f y) (allIn f ys) e) x)
   where
-    first : (b : Bool) → eqb y x ≡ b → (occurs x ys ≡ 0) ⊎ (f x ≡ true) → (one b + occurs x ys ≡ 0) ⊎ (f x ≡ true)
-    first true q r = inr (rw (eqb-true y x q) at (both-left (f y) (allIn f ys) e))
-    first false q r = ⊎-elim (λ z. inl (omega arith)) (λ t. inr t) r
+    by-head : (b : Bool) → eqb y x ≡ b → (occurs x ys ≡ 0) ⊎ (f x ≡ true) → (one b + occurs x ys ≡ 0) ⊎ (f x ≡ true)
+    by-head true q r = inr (rw (eqb-true y x q) at (both-left (f y) (allIn f ys) e))
+    by-head false q r = ⊎-elim (λ z. inl (omega arith)) (λ t. inr t) r
 
 sum-same : (f g : ℕ → ℕ) (n : ℕ) → ((p : ℕ) → f p ≡ g p) → sumBelow f n ≡ sumBelow g n
 sum-same f g zero e = refl
@@ -171,8 +171,8 @@ module _ (mode : Mode) (xs : List ℕ) (tested : fits mode xs ≡ true) where
   few = leb-true _ _ (both-right (inside mode xs) (short xs) tested)
 
 module _ (mode : Mode) (kind : SegmentKind) (row : ℕ) (in-table : row < 13) where
-  row-tested : rowTest mode kind row ≡ true
-  row-tested = allBelow-at (rowTest mode kind) 13 (rows-tested mode kind) row in-table
+  row-tested : fitsTest mode kind row ≡ true
+  row-tested = allBelow-at (fitsTest mode kind) 13 (rows-tested mode kind) row in-table
 
   tmcc-fits : fits mode (tmccOf mode kind row) ≡ true
   tmcc-fits = both-left (fits mode (tmccOf mode kind row)) (othersTest mode kind row) row-tested

@@ -15,7 +15,7 @@ ghost use Rattle.params.specs.declared.Mode.the-variants.{M1, M2, M3};
 use params::Mode;
 use params::SegmentKind;
 
-// A row of a carrier table: `count` places of a segment, ascending.
+// A row of a carrier table: `count` places of a segment, ascending, and zeros behind them.
 pub struct Positions {
     pub places: [u16; 20],
     pub count: usize,
@@ -198,15 +198,36 @@ pub fn ac2_positions(mode: Mode, kind: SegmentKind, row: usize) -> Positions
     }
 }
 
+fn init_m1(row: usize) -> u16
+    requires { ⌜ row < 13 ⌝ }
+    ensures { λ r. ⌜ r ≡ initOf M1 row ⌝ }
+{
+    standard::PRBS_INIT_M1[row]
+}
+
+fn init_m2(row: usize) -> u16
+    requires { ⌜ row < 13 ⌝ }
+    ensures { λ r. ⌜ r ≡ initOf M2 row ⌝ }
+{
+    standard::PRBS_INIT_M2[row]
+}
+
+fn init_m3(row: usize) -> u16
+    requires { ⌜ row < 13 ⌝ }
+    ensures { λ r. ⌜ r ≡ initOf M3 row ⌝ }
+{
+    standard::PRBS_INIT_M3[row]
+}
+
 // The sign register's first state in a segment, D1 in the highest of eleven bits.
 pub fn prbs_segment_init(mode: Mode, row: usize) -> u16
     requires { ⌜ row < 13 ⌝ }
     ensures { λ r. ⌜ r ≡ initOf mode row ⌝ }
 {
     match mode {
-        Mode::M1 => standard::PRBS_INIT_M1[row],
-        Mode::M2 => standard::PRBS_INIT_M2[row],
-        Mode::M3 => standard::PRBS_INIT_M3[row],
+        Mode::M1 => init_m1(row),
+        Mode::M2 => init_m2(row),
+        Mode::M3 => init_m3(row),
     }
 }
 

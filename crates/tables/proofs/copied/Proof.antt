@@ -1,23 +1,43 @@
--- `tables::copied` meets its contract: what is copied so far is the row's front.
+-- `tables::copied` meets its contract: what is copied so far is the row's front, and behind it stand the zeros that were there.
 -- Assumes nothing.
-use Prim.Native.Nat.{ℕ, _+_, _-_, _≤_, _<_}
-use mathlib.Core.List.{List}
-use mathlib.Core.Path.{_≡_, refl, _∙_}
+use Prim.Native.Nat.{ℕ, zero, suc, _-_, _≤_}
+use mathlib.Core.List.{List, _++_}
+use mathlib.Core.Path.{_≡_, refl, ap, _∙_}
+use native.Mathlib.Numerals.{unary-clauses}
 use native.Mathlib.Omega.{arith}
-use native.Mathlib.Numerals.{add-one}
 use borrow.Author.Needs.{needs}
-use lib.ListN.{length, getD, take, set, length-set}
-use lib.Seq.{take-suc, take-suc-set, take-all}
+use lib.ListN.{length, getD, take, drop, replicate, length-set}
+use lib.Seq.{take-at, drop-at}
+use Rattle.lists.specs.Lists.{upTo}
+use Rattle.lists.specs.Select.{length-upTo, upTo-getD}
+use Rattle.lists.specs.Fill.{fill-again}
+use Rattle.tables.specs.Places.{Listed}
 use Rattle.tables.proofs.copied.Statement.{statement}
 use Rattle.tables.proofs.copied.Tie as tie
 
-one-more : (row places : List ℕ) (i : ℕ) → i < length row → i < length places → take i places ≡ take i row
-    → take (i + 1) (set places i (getD row i 0)) ≡ take (i + 1) row
-one-more row places i h l e =
-    rw (add-one, take-suc-set places i (getD row i 0) l, take-suc row i 0 h, e)
+abbrev entry : List ℕ → ℕ → ℕ
+entry row i = getD row i 0
+
+-- all of the row is copied, and behind it stand the zeros that are left of twenty
+rest : (n m : ℕ) → drop {A = ℕ} n (replicate m 0) ≡ replicate (m - n) 0
+rest zero m = simp unary-clauses
+rest (suc n) zero = let e : 0 - suc n ≡ 0 = omega arith in rw e
+rest (suc n) (suc m) = simp unary-clauses (rest n m)
+
+whole : (row places : List ℕ) (i : ℕ) → i ≡ length row → places ≡ upTo (entry row) i ++ drop i (replicate 20 0)
+    → Listed (record { places = places; count = i }) row
+whole row places i n e =
+    let front = upTo (entry row) i in
+    let zeros : List ℕ = drop i (replicate 20 0) in
+    record {
+      places = ap (take i) e ∙ take-at front zeros i (length-upTo (entry row) i) ∙ ap (upTo (entry row)) n ∙ upTo-getD row;
+      count = n;
+      beyond = ap (drop i) e ∙ drop-at front zeros i (length-upTo (entry row) i) ∙ rest i 20;
+    }
 
 abbrev Inv-loop : tie.InvT-loop
-Inv-loop row places₀ i₀ places i = (i ≤ length row) × (length row ≤ 20) × (length places ≡ 20) × (take i places ≡ take i row)
+Inv-loop row places₀ i₀ places i =
+    (i ≤ length row) × (length row ≤ 20) × (length places ≡ 20) × (places ≡ upTo (entry row) i ++ drop i (replicate 20 0))
 
 abbrev μ-loop : tie.MeasureT-loop
 μ-loop row places₀ i₀ places i = length row - i
@@ -44,10 +64,13 @@ loop-less : tie.Need-loop-less Inv-loop μ-loop
 loop-less c = omega arith
 
 loop-again : tie.Need-loop-again Inv-loop μ-loop
-loop-again c = (omega arith, omega arith, simp length-set (c .before .before .loop .inv .2), one-more _ _ _ (c .before .loop-test .taken) (omega arith) (c .before .before .loop .inv .3))
+loop-again c =
+    let now = c .before .before .loop in
+    let row = c .before .before .before .args .row .now in
+    (omega arith, omega arith, simp length-set (now .inv .2), fill-again (entry row) (replicate 20 0) _ _ _ (now .inv .3) refl (omega arith))
 
 returns : tie.Need-returns Inv-loop μ-loop
-returns c = record { places = c .before .loop .inv .3 ∙ take-all _ _ (c .loop-test .left); count = omega arith }
+returns c = let now = c .before .loop in whole (c .before .before .args .row .now) (now .places) (now .i) (omega arith) (now .inv .3)
 
 pub copied-spec : {M : Type 1} → statement M
 copied-spec =

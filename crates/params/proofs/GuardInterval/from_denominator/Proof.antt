@@ -17,7 +17,9 @@ returns-4 : tie.Need-returns-4
 returns-4 c = rw (c .match .keys4)
 
 returns-5 : tie.Need-returns-5
-returns-5 c = rw (ne-eqb _ 4 (c .match .rest .0 .0 .0 .1), ne-eqb _ 8 (c .match .rest .0 .0 .1), ne-eqb _ 16 (c .match .rest .0 .1), ne-eqb _ 32 (c .match .rest .1))
+returns-5 c =
+    let no = c .match .rest in
+    rw (ne-eqb _ 4 (no .0 .0 .0 .1), ne-eqb _ 8 (no .0 .0 .1), ne-eqb _ 16 (no .0 .1), ne-eqb _ 32 (no .1))
 
 pub from-denominator-spec : {M : Type 1} → statement M
 from-denominator-spec = tie.close (tie.spec returns returns-2 returns-3 returns-4 returns-5)
