@@ -180,7 +180,7 @@ pub fn kinds_from_codes(codes: &[u8]) -> Result<Kinds, Refusal> {
     Ok(kinds)
 }
 
-/// Phase of the scattered pilots in a symbol. It goes up by one from symbol to symbol, from 3 to 0.
+/// Phase of the scattered pilots in a symbol. It goes up by one from symbol to symbol; after 3 comes 0.
 ///
 /// ```
 /// use sillurwy::params::Phase;
