@@ -1,6 +1,7 @@
--- The continual list's four groups hold exactly the carriers of TMCC, AC, CP and the edge, each ascending, at any phase.
+-- The continual list's four groups hold exactly the carriers of TMCC, AC, CP and the edge, each ascending, at any phase; and the number
+-- of its answer is the operation's code.
 -- Assumes nothing.
-use Prim.Native.Nat.{ℕ, _*_, _-_}
+use Prim.Native.Nat.{ℕ, zero, suc, _*_, _-_}
 use mathlib.Core.Bool.{true, false, cond, _||_}
 use mathlib.Core.List.{List, [], _∷_, _++_}
 use mathlib.Core.Path.{_≡_, refl, sym, ap, _∙_}
@@ -8,19 +9,31 @@ use native.Mathlib.Omega.{arith}
 use native.Mathlib.Numerals.{add-one}
 use borrow.Author.Tests.{eq-eqb, ne-eqb}
 use lib.Dec.{eqb, lit<}
+use lib.ListN.{length}
 use Rattle.lists.specs.Lists.{range, select, chosen}
 use Rattle.lists.specs.Select.{select-append, select-none, Ascending, select-ascending}
 use Rattle.lists.specs.Truth.{same, same-true}
 use Rattle.params.specs.declared.Mode.{Mode}
+use Rattle.params.specs.declared.ModeNumber.{ModeNumber}
+use Rattle.params.specs.declared.ModeNumber.the-variants.{Known, Unknown}
 use Rattle.params.specs.Params.{carriersPerSegment, totalCarriers}
 use Rattle.params.specs.Laws.{sized}
 use Rattle.frame.specs.declared.AcKind.the-variants.{Ac1, Ac2}
 use Rattle.frame.specs.declared.CarrierRole.{CarrierRole}
 use Rattle.frame.specs.declared.CarrierRole.the-variants.{Cp, Tmcc, Ac, EdgeCp}
 use Rattle.frame.specs.Roles.{OfdmSegment, roleByte, bandRoles, wide, isTmcc, isAc, isCpByte}
+use Rattle.carrier_lists.specs.declared.ContinualList.{ContinualList}
+use Rattle.carrier_lists.specs.declared.ContinualList.the-variants.{Count, Refused}
 use Rattle.carrier_lists.specs.CarrierLists.{continualList}
+use Rattle.carrier_lists.specs.Operations.{
+  continualListCode,
+  continualListAnswer,
+  continualListLeaves,
+  continualNumber,
+  ContinualListed,
+}
 use Rattle.frame.specs.Rules.{placeHas, bandSize, hasRole, carriersOf}
-use Rattle.frame.specs.OneRole.{every-role, edgeOf, roleAt, chosen-carriers, has-one, role-carriers, wide-rows}
+use Rattle.frame.specs.OneRole.{every-role, edgeOf, roleAt, band-length, chosen-carriers, has-one, role-carriers, wide-rows, wide-size}
 
 -- the carriers of role AC1 or AC2, ascending
 abbrev pub acCarriers : Mode → ℕ → List OfdmSegment → List ℕ
@@ -79,7 +92,8 @@ module _ (mode : Mode) (phase : ℕ) (kinds : List ℕ) where
       ++ (carriersOf mode phase (wide kinds) Cp
       ++ carriersOf mode phase (wide kinds) EdgeCp))
   unfolding continualList
-  continual-groups = rw (tmcc-exactly, ac-exactly, cp-exactly, edge-exactly)
+  continual-groups =
+      rw (band-length mode 0 (wide kinds) ∙ wide-size mode kinds, tmcc-exactly, ac-exactly, cp-exactly, edge-exactly)
 
 -- the carriers of any role ascend
 pub carriers-ascending : (mode : Mode) (phase : ℕ) (segments : List OfdmSegment) (r : CarrierRole) → Ascending (carriersOf mode phase segments r)
@@ -89,3 +103,19 @@ carriers-ascending mode phase segments r = select-ascending (λ k. hasRole mode 
 pub ac-ascending : (mode : Mode) (phase : ℕ) (segments : List OfdmSegment) → Ascending (acCarriers mode phase segments)
 ac-ascending mode phase segments =
     select-ascending (λ k. hasRole mode phase segments k (Ac Ac1) || hasRole mode phase segments k (Ac Ac2)) (bandSize mode segments)
+
+-- the number of an answer is the operation's code
+pub continual-number : (mode : ModeNumber) (kinds : List ℕ) (n : ℕ)
+    → continualNumber (continualListAnswer mode kinds n) ≡ continualListCode mode kinds n
+unfolding continualListAnswer continualListCode
+continual-number Unknown kinds n = refl
+continual-number (Known m) kinds n = by (continualListCode (Known m) kinds n)
+  where
+    by : (code : ℕ) → continualNumber (cond (eqb code 0) (Count (length (continualList m kinds))) (Refused code)) ≡ code
+    by zero = refl
+    by (suc code) = rw (ne-eqb (suc code) 0 (λ e. omega arith))
+
+pub continual-listed : (mode : ModeNumber) (kinds out : List ℕ) (r : ContinualList) (out' : List ℕ)
+    → r ≡ continualListAnswer mode kinds (length out) → out' ≡ continualListLeaves mode kinds out → ContinualListed mode kinds out r out'
+continual-listed mode kinds out r out' a l =
+    record { number = ap continualNumber a ∙ continual-number mode kinds (length out); answer = a; leaves = l }

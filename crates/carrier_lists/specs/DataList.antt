@@ -14,7 +14,7 @@ use Rattle.params.specs.declared.Mode.{Mode}
 use Rattle.params.specs.Params.{carriersPerSegment, dataCarriersPerSegment}
 use Rattle.tables.specs.Places.{tmccOf, ac1Of, ac2Of, isSp, isCp, claims, one}
 use Rattle.tables.specs.Rule.{full}
-use Rattle.ofdm.specs.Band.{order, placeOf}
+use Rattle.ofdm.specs.Band.{order, placeOf, firstCarrier}
 use Rattle.frame.specs.declared.CarrierRole.the-variants.{Data}
 use Rattle.frame.specs.Roles.{OfdmSegment, roleByte, placeRole, segmentRoles, bandRoles, wideSegment, wide, isData}
 use Rattle.carrier_lists.specs.CarrierLists.{segmentData, dataList}
@@ -46,7 +46,7 @@ segment-full mode phase s in-table in-cycle start =
 pub data-ascending : (mode : Mode) (phase : ℕ) (kinds : List ℕ) (seg : ℕ) → Ascending (segmentData mode phase kinds seg)
 unfolding segmentData
 data-ascending mode phase kinds seg =
-    chosen-ascending isData (placeOf seg * carriersPerSegment mode) (segmentRoles mode phase (wideSegment kinds seg))
+    chosen-ascending isData (firstCarrier mode (placeOf seg)) (segmentRoles mode phase (wideSegment kinds seg))
 
 -- the thirteen segments by place are the thirteen by number, rearranged
 order-perm : Perm order (range 13)
@@ -67,7 +67,7 @@ module _ (mode : Mode) (phase : ℕ) (kinds : List ℕ) where
     data-length =
         length-joined (segmentData mode phase kinds) (dataCarriersPerSegment mode) 0 (range 13) (λ i l.
         ap (λ (seg : ℕ). length (segmentData mode phase kinds seg)) (getD-upTo (λ k. k) 13 i 0 l)
-        ∙ segment-full mode phase (wideSegment kinds i) l in-cycle (placeOf i * carriersPerSegment mode))
+        ∙ segment-full mode phase (wideSegment kinds i) l in-cycle (firstCarrier mode (placeOf i)))
 
     -- the data list holds exactly the carriers of role data
     pub data-exactly : Perm (dataList mode phase kinds) (carriersOf mode phase (wide kinds) Data)

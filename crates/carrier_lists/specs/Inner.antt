@@ -1,8 +1,8 @@
 -- What the inner functions store and take on the way to an operation's answer. No operation's contract cites these.
 -- Assumes nothing.
-use Prim.Native.Nat.{ℕ, _+_, _*_, _-_, _≤_}
+use Prim.Native.Nat.{ℕ, _+_, _≤_, _<_}
 use mathlib.Core.Bool.{cond}
-use mathlib.Core.List.{List, [], _∷_, _++_}
+use mathlib.Core.List.{List}
 use mathlib.Core.Path.{_≡_}
 use lib.Dec.{leb}
 use lib.ListN.{length, take, drop}
@@ -10,10 +10,11 @@ use lib.Seq.{sets}
 use Rattle.lists.specs.Lists.{range, joined, chosen}
 use Rattle.params.specs.declared.Mode.{Mode}
 use Rattle.params.specs.Params.{carriersPerSegment, totalCarriers}
-use Rattle.ofdm.specs.Band.{placeOf}
-use Rattle.frame.specs.Roles.{between, isData, isTmcc, isAc, isCpByte}
+use Rattle.ofdm.specs.Band.{placeOf, firstCarrier}
+use Rattle.frame.specs.Roles.{between, isData}
 use Rattle.carrier_lists.specs.declared.ContinualList.{ContinualList}
 use Rattle.carrier_lists.specs.declared.ContinualList.the-variants.{Count, Refused}
+use Rattle.carrier_lists.specs.CarrierLists.{continualIn, storedFirst}
 
 -- the carriers that `collect` stores
 abbrev pub collected : List ℕ → ℕ → ℕ → ℕ → List ℕ
@@ -28,21 +29,24 @@ pub record Collected (roles : List ℕ) (low high first : ℕ) (out : List ℕ) 
   pub next : r ≡ at + length (collected roles low high first)
   pub stored : out' ≡ sets out at (collected roles low high first)
 
--- the data carriers of a segment of a band with these roles, c to a segment
-abbrev pub dataIn : ℕ → List ℕ → ℕ → List ℕ
-dataIn c roles seg = chosen isData (placeOf seg * c) (take c (drop (placeOf seg * c) roles))
+-- the data carriers of a segment of a band with these roles
+abbrev pub dataIn : Mode → List ℕ → ℕ → List ℕ
+dataIn mode roles seg =
+    chosen isData (firstCarrier mode (placeOf seg)) (take (carriersPerSegment mode) (drop (firstCarrier mode (placeOf seg)) roles))
 
 pub record DataRoom (mode : Mode) (roles out : List ℕ) : Type 0 where
   pub band : length roles ≡ totalCarriers mode
-  pub fits : length (joined (dataIn (carriersPerSegment mode) roles) (range 13)) ≡ length out
+  pub fits : length (joined (dataIn mode roles) (range 13)) ≡ length out
 
--- the continual list of a band with these roles
-abbrev pub continualIn : List ℕ → List ℕ
-continualIn roles = chosen isTmcc 0 roles ++ (chosen isAc 0 roles ++ (chosen isCpByte 0 roles ++ ((length roles - 1) ∷ [])))
+-- a band, and room for its continual list
+pub record ContinualRoom (roles out : List ℕ) : Type 0 where
+  pub some : 0 < length roles
+  pub few : length roles ≤ 5617
+  pub fits : length (continualIn roles) ≤ length out
 
 pub record Continual (roles out : List ℕ) (r : ContinualList) (out' : List ℕ) : Type 0 where
   pub answer : r ≡ cond (leb (length (continualIn roles)) (length out)) (Count (length (continualIn roles))) (Refused 7)
-  pub leaves : out' ≡ cond (leb (length (continualIn roles)) (length out)) (continualIn roles ++ drop (length (continualIn roles)) out) out
+  pub leaves : out' ≡ cond (leb (length (continualIn roles)) (length out)) (storedFirst (continualIn roles) out) out
 
 -- a buffer whose first k_total entries are the band's roles
 pub record BandBuffer (mode : Mode) (roles buffer : List ℕ) : Type 0 where

@@ -2,10 +2,10 @@
 -- Assumes nothing.
 use Prim.Native.Nat.{ℕ, _*_}
 use mathlib.Core.Bool.{cond}
-use mathlib.Core.List.{List, _++_}
+use mathlib.Core.List.{List}
 use mathlib.Core.Path.{_≡_}
 use lib.Dec.{eqb, leb}
-use lib.ListN.{length, drop}
+use lib.ListN.{length}
 use Rattle.lists.specs.Refusals.{unless}
 use Rattle.params.specs.declared.ModeNumber.{ModeNumber}
 use Rattle.params.specs.declared.ModeNumber.the-variants.{Known, Unknown}
@@ -13,7 +13,7 @@ use Rattle.params.specs.Params.{dataCarriersPerSegment}
 use Rattle.frame.specs.Operations.{areKinds, SymbolAnswer}
 use Rattle.carrier_lists.specs.declared.ContinualList.{ContinualList}
 use Rattle.carrier_lists.specs.declared.ContinualList.the-variants.{Count, Refused}
-use Rattle.carrier_lists.specs.CarrierLists.{dataList, continualList}
+use Rattle.carrier_lists.specs.CarrierLists.{dataList, continualList, storedFirst}
 
 -- the data list: 13 × nc numbers
 abbrev pub DataList : ModeNumber → ℕ → List ℕ → List ℕ → ℕ → List ℕ → Type 0
@@ -34,8 +34,19 @@ continualListAnswer (Known m) kinds n =
 unfoldable pub continualListLeaves : ModeNumber → List ℕ → List ℕ → List ℕ
 continualListLeaves Unknown kinds out = out
 continualListLeaves (Known m) kinds out =
-    cond (eqb (continualListCode (Known m) kinds (length out)) 0) (continualList m kinds ++ drop (length (continualList m kinds)) out) out
+    cond (eqb (continualListCode (Known m) kinds (length out)) 0) (storedFirst (continualList m kinds) out) out
+
+-- document 01's number of an answer: 0 where there is a count
+abbrev pub continualNumber : ContinualList → ℕ
+continualNumber (Count n) = 0
+continualNumber (Refused code) = code
+
+-- the count that an answer hands back, or what was lent where it has none
+abbrev pub countGiven : ContinualList → ℕ → ℕ
+countGiven (Count n) lent = n
+countGiven (Refused code) lent = lent
 
 pub record ContinualListed (mode : ModeNumber) (kinds out : List ℕ) (r : ContinualList) (out' : List ℕ) : Type 0 where
+  pub number : continualNumber r ≡ continualListCode mode kinds (length out)
   pub answer : r ≡ continualListAnswer mode kinds (length out)
   pub leaves : out' ≡ continualListLeaves mode kinds out

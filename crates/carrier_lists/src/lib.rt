@@ -4,12 +4,13 @@ ghost use mathlib.Core.Path.{_≡_};
 ghost use Prim.Native.Nat.{_<_, _≤_, _*_};
 ghost use lib.ListN.{length};
 ghost use Rattle.lists.specs.Lists.{range, joined, chosen};
-ghost use Rattle.params.specs.Params.{modeFrom, carriersPerSegment, dataCarriersPerSegment};
+ghost use Rattle.params.specs.Params.{modeFrom, dataCarriersPerSegment};
 ghost use Rattle.frame.specs.Roles.{bandRoles, wide, between};
-ghost use Rattle.carrier_lists.specs.CarrierLists.{dataList};
+ghost use Rattle.carrier_lists.specs.CarrierLists.{dataList, continualIn, storedFirst};
 ghost use Rattle.carrier_lists.specs.Operations.{DataList, ContinualListed};
-ghost use Rattle.carrier_lists.specs.Inner.{Room, Collected, DataRoom, dataIn, Continual, BandBuffer};
+ghost use Rattle.carrier_lists.specs.Inner.{Room, Collected, DataRoom, dataIn, ContinualRoom, Continual, BandBuffer};
 use frame::FrameLayout;
+use ofdm::BandCarrier;
 use ofdm::Segment;
 use params::Mode;
 
@@ -24,30 +25,21 @@ const AC1: u8 = 4;
 
 const AC2: u8 = 5;
 
-// Whether a role byte lies from low to high.
-fn is_between(low: u8, high: u8, role: u8) -> bool
-    ensures { λ r. ⌜ r ≡ between low high role ⌝ }
-{
-    if role < low {
-        return false;
-    }
-    role <= high
-}
-
 // Stores, from index `at` of `out` on, the carriers whose role byte lies from low to high, where
-// roles[i] is that of carrier first + i. Hands back the index behind the last.
-fn collect(roles: &[u8], low: u8, high: u8, first: usize, out: &mut [u32], at: usize) -> usize
-    requires { ⌜ Room (now roles) low high first (now out) at ⌝ }
-    ensures { λ r. ⌜ Collected (now (roles .entry)) low high first (now (out .entry)) at r (now (out .exit)) ⌝ }
+// roles[i] is that of the i-th carrier from the first on. Hands back the index behind the last.
+fn collect(roles: &[u8], low: u8, high: u8, first: BandCarrier, out: &mut [u32], at: usize) -> usize
+    requires { ⌜ Room (now roles) low high (first .0) (now out) at ⌝ }
+    ensures { λ r. ⌜ Collected (now (roles .entry)) low high (first .0) (now (out .entry)) at r (now (out .exit)) ⌝ }
 {
+    let lowest = first.0;
     let mut n = at;
     let mut i: usize = 0;
     while i < roles.len() {
-        if !is_between(low, high, roles[i]) {
+        if !frame::is_between(low, high, roles[i]) {
             i += 1;
             continue;
         }
-        out[n] = (first + i) as u32;
+        out[n] = (lowest + i) as u32;
         n += 1;
         i += 1;
     }
@@ -61,7 +53,7 @@ fn count(roles: &[u8], low: u8, high: u8) -> usize
     let mut n: usize = 0;
     let mut i: usize = 0;
     while i < roles.len() {
-        if !is_between(low, high, roles[i]) {
+        if !frame::is_between(low, high, roles[i]) {
             i += 1;
             continue;
         }
@@ -74,16 +66,16 @@ fn count(roles: &[u8], low: u8, high: u8) -> usize
 // Stores the data carriers of each segment, in segment-number order, of a band with these roles.
 fn collect_data(mode: Mode, roles: &[u8], out: &mut [u32])
     requires { ⌜ DataRoom mode (now roles) (now out) ⌝ }
-    ensures { λ _. ⌜ now (out .exit) ≡ joined (dataIn (carriersPerSegment mode) (now (roles .entry))) (range 13) ⌝ }
+    ensures { λ _. ⌜ now (out .exit) ≡ joined (dataIn mode (now (roles .entry))) (range 13) ⌝ }
 {
     let c = mode.carriers_per_segment();
     let mut at: usize = 0;
     let mut seg: usize = 0;
     while seg < 13 {
-        let place = ofdm::segment_position(Segment(seg));
-        let from = place.0 * c;
+        let first = ofdm::first_carrier(mode, ofdm::segment_position(Segment(seg)));
+        let from = first.0;
         let to = from + c;
-        at = collect(&roles[from..to], DATA, DATA, from, out, at);
+        at = collect(&roles[from..to], DATA, DATA, first, out, at);
         seg += 1;
     }
 }
@@ -95,26 +87,29 @@ pub enum ContinualList {
 }
 
 // Stores TMCC carriers, AC carriers, CP carriers and the edge of a band with these roles.
+fn store_continual(roles: &[u8], out: &mut [u32])
+    requires { ⌜ ContinualRoom (now roles) (now out) ⌝ }
+    ensures { λ _. ⌜ now (out .exit) ≡ storedFirst (continualIn (now (roles .entry))) (now (out .entry)) ⌝ }
+{
+    let lowest = BandCarrier(0);
+    let tmcc = collect(roles, TMCC, TMCC, lowest, out, 0);
+    let ac = collect(roles, AC1, AC2, lowest, out, tmcc);
+    let cp = collect(roles, CP, CP, lowest, out, ac);
+    out[cp] = (roles.len() - 1) as u32;
+}
+
+// Stores them where there is room. The bytes of CP, TMCC, AC1 and AC2 follow one another, so that
+// one walk counts them all; the edge is one more.
 fn collect_continual(roles: &[u8], out: &mut [u32]) -> ContinualList
     requires { ⌜ (0 < length (now roles)) × (length (now roles) ≤ 5617) ⌝ }
     ensures { λ r. ⌜ Continual (now (roles .entry)) (now (out .entry)) r (now (out .exit)) ⌝ }
 {
-    let n = count(roles, TMCC, TMCC) + count(roles, AC1, AC2) + count(roles, CP, CP) + 1;
+    let n = count(roles, CP, AC2) + 1;
     if out.len() < n {
         return ContinualList::Refused(7);
     }
-    let tmcc = collect(roles, TMCC, TMCC, 0, out, 0);
-    let ac = collect(roles, AC1, AC2, 0, out, tmcc);
-    let cp = collect(roles, CP, CP, 0, out, ac);
-    out[cp] = (roles.len() - 1) as u32;
+    store_continual(roles, out);
     ContinualList::Count(n)
-}
-
-// Room for the largest band. The `ensures` gives the length alone, which lending needs.
-fn band_buffer() -> [u8; 5617]
-    ensures { λ r. ⌜ 5617 ≡ length r ⌝ }
-{
-    [0; 5617]
 }
 
 // Role bytes of the band, in a buffer's first k_total entries.
@@ -124,7 +119,7 @@ fn band(layout: FrameLayout, phase: u8) -> [u8; 5617]
 {
     let mode = layout.mode;
     let k = mode.total_carriers();
-    let mut buffer = band_buffer();
+    let mut buffer = ofdm::zero_band();
     layout.roles(phase, &mut buffer[..k]);
     buffer
 }
@@ -140,7 +135,7 @@ pub fn data_carriers(layout: FrameLayout, phase: u8, out: &mut [u32])
     collect_data(mode, &roles[..k], out);
 }
 
-// Continual carriers of a layout. None of them hangs on the phase.
+// Continual carriers of a layout. None of them depends on the phase.
 pub fn continual_carriers(layout: FrameLayout, out: &mut [u32]) -> ContinualList
     ensures { λ r. ⌜ Continual (bandRoles (layout .mode) 0 (wide (layout .kinds))) (now (out .entry)) r (now (out .exit)) ⌝ }
 {

@@ -1,11 +1,11 @@
 -- Segments by their place in the band (ARIB STD-B31, Figure 3-32), and a carrier's FFT bin (3.14.1).
 -- Assumes nothing.
-use Prim.Native.Nat.{ℕ, _+_, _*_, _-_, _/_, _%_}
+use Prim.Native.Nat.{ℕ, _+_, _*_, _-_, _/_, _%_, _<_}
 use mathlib.Core.Bool.{cond}
 use mathlib.Core.List.{List, [], _∷_}
 use mathlib.Core.Path.{_≡_}
 use lib.Dec.{eqb, ltb}
-use lib.ListN.{getD}
+use lib.ListN.{length, getD}
 use Rattle.lists.specs.Refusals.{unless}
 use Rattle.params.specs.declared.Mode.{Mode}
 use Rattle.params.specs.declared.ModeNumber.{ModeNumber}
@@ -39,6 +39,11 @@ centerCarrier m = (totalCarriers m - 1) / 2
 -- k less the centre carrier, modulo n; n is added first, since ℕ stops at 0
 abbrev pub binOf : Mode → ℕ → ℕ
 binOf m k = (k + (fftSize m - centerCarrier m)) % fftSize m
+
+-- room for a byte for each carrier of the largest band: zeros, said entry by entry, so that nobody has to look at 5,617 of them
+pub record ZeroBand (buffer : List ℕ) : Type 0 where
+  pub size : 5617 ≡ length buffer
+  pub zeros : (i : ℕ) → i < 5617 → getD buffer i 1 ≡ 0
 
 -- what refuses a lookup, or 0: 1 for a bad mode; 4 for k at or above k_total
 abbrev pub binCode : ModeNumber → ℕ → ℕ

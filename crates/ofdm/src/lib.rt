@@ -4,7 +4,7 @@
 ghost use mathlib.Core.Path.{_≡_};
 ghost use Prim.Native.Nat.{_<_, _≤_, _+_, _*_};
 ghost use Rattle.params.specs.Params.{modeFrom, carriersPerSegment, totalCarriers};
-ghost use Rattle.ofdm.specs.Band.{segmentAt, placeOf, firstCarrier, binOf, BinLookedUp};
+ghost use Rattle.ofdm.specs.Band.{segmentAt, placeOf, firstCarrier, binOf, ZeroBand, BinLookedUp};
 use params::Mode;
 use params::ModeNumber;
 
@@ -69,6 +69,13 @@ pub fn carrier_bin(mode: Mode, k: BandCarrier) -> FftBin
     let n = mode.fft_size();
     let center = (mode.total_carriers() - 1) / 2;
     FftBin((k.0 + (n - center)) % n)
+}
+
+// Room for a byte for each carrier of the largest band.
+pub fn zero_band() -> [u8; 5617]
+    ensures { λ r. ⌜ ZeroBand r ⌝ }
+{
+    [0; 5617]
 }
 
 // What the lookup answers.

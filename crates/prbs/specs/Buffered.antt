@@ -11,8 +11,8 @@ use Rattle.lists.specs.Select.{length-upTo, length-joined}
 use Rattle.params.specs.declared.Mode.{Mode}
 use Rattle.params.specs.Params.{carriersPerSegment, totalCarriers}
 use Rattle.params.specs.Laws.{sized}
-use Rattle.ofdm.specs.Band.{order}
-use Rattle.prbs.specs.Signs.{segmentSigns, edgeSign, bandSigns, SignBuffer}
+use Rattle.ofdm.specs.Band.{order, ZeroBand}
+use Rattle.prbs.specs.Signs.{segmentSigns, edgeSign, bandSigns}
 
 pub signs-length : (mode : Mode) → length (bandSigns mode) ≡ totalCarriers mode
 unfolding bandSigns segmentSigns
@@ -20,7 +20,7 @@ signs-length mode =
     let parts = length-joined (segmentSigns mode) (carriersPerSegment mode) 0 order (λ i l. length-upTo _ (carriersPerSegment mode)) in
     omega (arith, length-append (joined (segmentSigns mode) order) (edgeSign mode ∷ []), parts, sized mode .band)
 
-module _ (m : Mode) {k : ℕ} (sizes : k ≡ totalCarriers m) (buffer : List ℕ) (b : SignBuffer buffer) where
+module _ (m : Mode) {k : ℕ} (sizes : k ≡ totalCarriers m) (buffer : List ℕ) (b : ZeroBand buffer) where
   pub room : k ≤ length buffer
   room = omega (arith, b .size, sized m .band-high)
 

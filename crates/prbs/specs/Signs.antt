@@ -1,13 +1,13 @@
 -- The pilot signs (ARIB STD-B31, 3.13.1, Figure 3-31, Tables 3-16, 3-17 and 3-19): a register of x^11 + x^9 + 1, loaded afresh for
 -- each segment.
 -- Assumes nothing.
-use Prim.Native.Nat.{ℕ, zero, suc, _/_, _%_, _<_}
+use Prim.Native.Nat.{ℕ, zero, suc, _/_, _%_}
 use mathlib.Core.Bool.{cond}
 use mathlib.Core.List.{List, [], _∷_, _++_}
 use mathlib.Core.Path.{_≡_}
 use lib.Dec.{eqb}
 use lib.Ieee.{Float, binary32, ofBits, neg}
-use lib.ListN.{length, getD, take}
+use lib.ListN.{getD, take}
 use Rattle.lists.specs.Lists.{upTo, joined}
 use Rattle.params.specs.declared.Mode.{Mode}
 use Rattle.params.specs.declared.Mode.the-variants.{M1, M2, M3}
@@ -64,8 +64,3 @@ pilotAmplitude = ofBits binary32 0x3faa_aaab
 -- the pilot of a sign: 0 is +4/3, 1 is -4/3
 abbrev pub pilotValue : ℕ → Pair
 pilotValue w = pair (cond (eqb w 0) pilotAmplitude (neg pilotAmplitude)) (ofBits binary32 0)
-
--- room for the signs of the largest band: zeros, said entry by entry, since nobody wants to see 5,617 of them
-pub record SignBuffer (buffer : List ℕ) : Type 0 where
-  pub size : 5617 ≡ length buffer
-  pub zeros : (i : ℕ) → i < 5617 → getD buffer i 1 ≡ 0

@@ -5,8 +5,9 @@ ghost use Prim.Native.Nat.{_<_};
 ghost use lib.ListN.{length};
 ghost use Rattle.lists.specs.Lists.{upTo};
 ghost use Rattle.params.specs.Params.{modeFrom, carriersPerSegment, totalCarriers};
+ghost use Rattle.ofdm.specs.Band.{ZeroBand};
 ghost use Rattle.complex.specs.Complex.{of32};
-ghost use Rattle.prbs.specs.Signs.{loaded, Step, signAfter, segmentSigns, bandSigns, edgeSign, pilotValue, SignBuffer};
+ghost use Rattle.prbs.specs.Signs.{loaded, Step, signAfter, segmentSigns, bandSigns, edgeSign, pilotValue};
 ghost use Rattle.prbs.specs.Signs.{xor as Signs·xor};
 ghost use Rattle.prbs.specs.SignMap.{SignMap};
 use complex::C32;
@@ -131,9 +132,9 @@ pub fn pilot_value(w: u8) -> C32
 
 // Room for the signs of the largest band, all zeros.
 pub fn sign_buffer() -> [u8; 5617]
-    ensures { λ r. ⌜ SignBuffer r ⌝ }
+    ensures { λ r. ⌜ ZeroBand r ⌝ }
 {
-    [0; 5617]
+    ofdm::zero_band()
 }
 
 // W of all carriers of the band, segment after segment from the lowest place.

@@ -12,10 +12,10 @@ use Rattle.carrier_lists.proofs.collect.Statement.{statement}
 use Rattle.carrier_lists.proofs.collect.Tie as tie
 
 abbrev Inv-loop : tie.InvT-loop
-Inv-loop roles low high first out₀ at n₀ i₀ out n i = Left (between low high) first roles out₀ at i n out
+Inv-loop roles low high out₀ at lowest n₀ i₀ out n i = Left (between low high) lowest roles out₀ at i n out
 
 abbrev μ-loop : tie.MeasureT-loop
-μ-loop roles low high first out₀ at n₀ i₀ out n i = length roles - i
+μ-loop roles low high out₀ at lowest n₀ i₀ out n i = length roles - i
 
 loop-holds : tie.Need-loop-holds Inv-loop μ-loop
 loop-holds c = start _ _ _ _ _
@@ -33,22 +33,44 @@ loop-less : tie.Need-loop-less Inv-loop μ-loop
 loop-less c = omega arith
 
 loop-again : tie.Need-loop-again Inv-loop μ-loop
-loop-again c = skip _ _ _ _ _ _ _ _ (c .before .before .before .loop-test .taken) (sym (c .before .is-between .ensures) ∙ not-true _ (c .if1 .taken)) (c .before .before .before .before .loop .inv)
+loop-again c =
+    let b = c .before in
+    let t = b .before .before in
+    skip _ _ _ _ _ _ _ _ (t .loop-test .taken) (sym (b .is-between .ensures) ∙ not-true _ (c .if1 .taken)) (t .before .loop .inv)
 
 add-out : tie.Need-add-out Inv-loop μ-loop
-add-out c = omega (arith, c .before .before .before .before .before .before .before .pre .small)
+add-out c =
+    let l = c .before .before .before .before in
+    omega (arith, l .before .before .before .pre .small)
 
 cast-out : tie.Need-cast-out Inv-loop μ-loop
-cast-out c = omega (arith, c .before .before .before .before .before .before .before .pre .small)
+cast-out c =
+    let l = c .before .before .before .before in
+    omega (arith, l .before .before .before .pre .small)
 
 mul-out : tie.Need-mul-out Inv-loop μ-loop
-mul-out c = omega (arith, has-room _ _ _ _ _ _ _ _ (c .before .before .before .loop-test .taken) (sym (c .before .is-between .ensures) ∙ not-false _ (c .if1 .left)) (c .before .before .before .before .loop .inv) (c .before .before .before .before .before .before .before .pre .fits))
+mul-out c =
+    let b = c .before in
+    let t = b .before .before in
+    let kept = sym (b .is-between .ensures) ∙ not-false _ (c .if1 .left) in
+    let l = t .before in
+    omega (arith, has-room _ _ _ _ _ _ _ _ (t .loop-test .taken) kept (l .loop .inv) (l .before .before .before .pre .fits))
 
 slice-write-out : tie.Need-slice-write-out Inv-loop μ-loop
-slice-write-out c = omega (arith, has-room _ _ _ _ _ _ _ _ (c .before .before .before .loop-test .taken) (sym (c .before .is-between .ensures) ∙ not-false _ (c .if1 .left)) (c .before .before .before .before .loop .inv) (c .before .before .before .before .before .before .before .pre .fits))
+slice-write-out c =
+    let b = c .before in
+    let t = b .before .before in
+    let kept = sym (b .is-between .ensures) ∙ not-false _ (c .if1 .left) in
+    let l = t .before in
+    omega (arith, has-room _ _ _ _ _ _ _ _ (t .loop-test .taken) kept (l .loop .inv) (l .before .before .before .pre .fits))
 
 add-n : tie.Need-add-n Inv-loop μ-loop
-add-n c = omega (arith, has-room _ _ _ _ _ _ _ _ (c .before .before .before .loop-test .taken) (sym (c .before .is-between .ensures) ∙ not-false _ (c .if1 .left)) (c .before .before .before .before .loop .inv) (c .before .before .before .before .before .before .before .pre .fits))
+add-n c =
+    let b = c .before in
+    let t = b .before .before in
+    let kept = sym (b .is-between .ensures) ∙ not-false _ (c .if1 .left) in
+    let l = t .before in
+    omega (arith, has-room _ _ _ _ _ _ _ _ (t .loop-test .taken) kept (l .loop .inv) (l .before .before .before .pre .fits))
 
 add-i-2 : tie.Need-add-i-2 Inv-loop μ-loop
 add-i-2 c = omega arith
@@ -57,13 +79,22 @@ loop-less-2 : tie.Need-loop-less-2 Inv-loop μ-loop
 loop-less-2 c = omega arith
 
 loop-again-2 : tie.Need-loop-again-2 Inv-loop μ-loop
-loop-again-2 c = keep _ _ _ _ _ _ _ _ _ (c .before .before .before .loop-test .taken) (sym (c .before .is-between .ensures) ∙ not-false _ (c .if1 .left)) refl (c .before .before .before .before .loop .inv)
+loop-again-2 c =
+    let b = c .before in
+    let t = b .before .before in
+    let kept = sym (b .is-between .ensures) ∙ not-false _ (c .if1 .left) in
+    keep _ _ _ _ _ _ _ _ _ (t .loop-test .taken) kept refl (t .before .loop .inv)
 
 same-length : tie.Need-same-length Inv-loop μ-loop
 same-length c = c .before .loop .inv .size
 
 returns : tie.Need-returns Inv-loop μ-loop
-returns c = record { next = counted _ _ _ _ _ (c .before .loop .i) _ _ (c .loop-test .left) (c .before .loop .inv); stored = all-stored _ _ _ _ _ (c .before .loop .i) _ _ (c .loop-test .left) (c .before .loop .inv) }
+returns c =
+    let l = c .before .loop in
+    record {
+      next = counted _ _ _ _ _ (l .i) _ _ (c .loop-test .left) (l .inv);
+      stored = all-stored _ _ _ _ _ (l .i) _ _ (c .loop-test .left) (l .inv);
+    }
 
 pub collect-spec : {M : Type 1} → statement M
 collect-spec =

@@ -1,20 +1,17 @@
 -- `carrier_lists::collect_data` meets its contract: the carriers of the segments so far are stored behind one another.
 -- Assumes nothing.
-use Prim.Native.Nat.{ℕ, _-_}
-use mathlib.Core.Path.{ap, _∙_}
-use Rattle.lists.specs.Lists.{joined, range}
-use Rattle.carrier_lists.specs.Inner.{dataIn}
-use Rattle.carrier_lists.proofs.Stored.{DataTo, data-begin, data-size, data-ends, data-room, data-again, data-done}
+use Prim.Native.Nat.{_-_}
+use Rattle.carrier_lists.proofs.Stored.{DataTo, data-begin, data-size, data-ends, data-few, data-room, data-again, data-done}
 use borrow.Author.Needs.{needs}
 use native.Mathlib.Omega.{arith}
 use Rattle.carrier_lists.proofs.collect_data.Statement.{statement}
 use Rattle.carrier_lists.proofs.collect_data.Tie as tie
 
 abbrev Inv-loop : tie.InvT-loop
-Inv-loop roles out₀ c at₀ seg₀ out at seg = DataTo roles out₀ c seg at out
+Inv-loop mode roles out₀ c at₀ seg₀ out at seg = DataTo mode roles out₀ c seg at out
 
 abbrev μ-loop : tie.MeasureT-loop
-μ-loop roles out₀ c at₀ seg₀ out at seg = 13 - seg
+μ-loop mode roles out₀ c at₀ seg₀ out at seg = 13 - seg
 
 carriers-per-segment-requires : tie.Need-carriers-per-segment-requires Inv-loop μ-loop
 carriers-per-segment-requires c κs = search needs
@@ -25,11 +22,16 @@ loop-holds c = data-begin _ _ _ _ (c .carriers-per-segment .ensures) (c .before 
 segment-position-requires : tie.Need-segment-position-requires Inv-loop μ-loop
 segment-position-requires c κs = c .loop-test .taken
 
-mul-from : tie.Need-mul-from Inv-loop μ-loop
-mul-from c = omega (arith, data-ends _ _ _ _ _ _ (c .before .before .before .loop .inv) _ (c .before .before .loop-test .taken) (c .before .segment-position .ensures .0), c .before .before .before .loop .inv .few)
+first-carrier-requires : tie.Need-first-carrier-requires Inv-loop μ-loop
+first-carrier-requires c κs = omega arith
 
 add-to : tie.Need-add-to Inv-loop μ-loop
-add-to c = omega (arith, data-ends _ _ _ _ _ _ (c .before .before .before .loop .inv) _ (c .before .before .loop-test .taken) (c .before .segment-position .ensures .0), c .before .before .before .loop .inv .few)
+add-to c =
+    let p = c .before in
+    let t = p .before in
+    let w = t .before .loop .inv in
+    let ends = data-ends _ _ _ _ _ _ _ w _ _ (p .segment-position .ensures .0) (c .first-carrier .ensures) (t .loop-test .taken) in
+    omega (arith, ends, data-few _ _ _ _ _ _ _ w)
 
 sub-collect : tie.Need-sub-collect Inv-loop μ-loop
 sub-collect c = omega arith
@@ -38,10 +40,18 @@ part-collect-start : tie.Need-part-collect-start Inv-loop μ-loop
 part-collect-start c = omega arith
 
 part-collect-end : tie.Need-part-collect-end Inv-loop μ-loop
-part-collect-end c = omega (arith, data-ends _ _ _ _ _ _ (c .before .before .before .loop .inv) _ (c .before .before .loop-test .taken) (c .before .segment-position .ensures .0))
+part-collect-end c =
+    let p = c .before in
+    let t = p .before in
+    let w = t .before .loop .inv in
+    omega (arith, data-ends _ _ _ _ _ _ _ w _ _ (p .segment-position .ensures .0) (c .first-carrier .ensures) (t .loop-test .taken))
 
 collect-requires : tie.Need-collect-requires Inv-loop μ-loop
-collect-requires c κs = data-room _ _ _ _ _ _ (c .before .before .before .before .before .loop .inv) _ (c .before .before .before .before .loop-test .taken) (c .before .before .before .segment-position .ensures .0)
+collect-requires c κs =
+    let f = c .before .before in
+    let p = f .before in
+    let t = p .before in
+    data-room _ _ _ _ _ _ _ (t .before .loop .inv) _ _ (p .segment-position .ensures .0) (f .first-carrier .ensures) (t .loop-test .taken)
 
 add-seg : tie.Need-add-seg Inv-loop μ-loop
 add-seg c = omega arith
@@ -50,13 +60,19 @@ loop-less : tie.Need-loop-less Inv-loop μ-loop
 loop-less c = omega arith
 
 loop-again : tie.Need-loop-again Inv-loop μ-loop
-loop-again c = data-again _ _ _ _ _ _ (c .before .before .before .before .before .before .before .before .loop .inv) _ (c .before .before .before .before .before .before .before .loop-test .taken) (c .before .before .before .before .before .before .segment-position .ensures .0) _ _ (c .before .before .collect .ensures)
+loop-again c =
+    let k = c .before .before in
+    let f = k .before .before .before in
+    let p = f .before in
+    let t = p .before in
+    data-again _ _ _ _ _ _ _ (t .before .loop .inv) _ _ (p .segment-position .ensures .0) (f .first-carrier .ensures) (t .loop-test .taken)
+    _ _ (k .collect .ensures)
 
 same-length : tie.Need-same-length Inv-loop μ-loop
-same-length c = data-size _ _ _ _ _ _ (c .before .loop .inv)
+same-length c = data-size _ _ _ _ _ _ _ (c .before .loop .inv)
 
 returns : tie.Need-returns Inv-loop μ-loop
-returns c = data-done _ _ _ _ _ _ (c .before .loop .inv) (c .loop-test .left) ∙ ap (λ (n : ℕ). joined (dataIn n (c .before .before .before .before .before .args .roles .now)) (range 13)) (c .before .before .carriers-per-segment .ensures)
+returns c = data-done _ _ _ _ _ _ _ (c .before .loop .inv) (c .loop-test .left)
 
 pub collect-data-spec : {M : Type 1} → statement M
 collect-data-spec =
@@ -67,7 +83,7 @@ collect-data-spec =
     carriers-per-segment-requires
     loop-holds
     segment-position-requires
-    mul-from
+    first-carrier-requires
     add-to
     sub-collect
     part-collect-start

@@ -1,4 +1,4 @@
--- `carrier_lists::continual_carriers` meets its contract: the buffer's front is the band's roles.
+-- `carrier_lists::continual_carriers` meets its contract: the buffer's first entries are the band's roles.
 -- Assumes nothing.
 use mathlib.Core.Path.{sym, _∙_}
 use Rattle.params.specs.Laws.{sized}
@@ -15,19 +15,36 @@ band-requires : tie.Need-band-requires
 band-requires c κs = search needs
 
 array-share-prefix-roles : tie.Need-array-share-prefix-roles
-array-share-prefix-roles c = buffer-room (c .before .before .before .args .layout .mode) 0 (c .before .before .before .args .layout .kinds) _ (c .band .ensures) _ (c .before .total-carriers .ensures)
+array-share-prefix-roles c =
+    let k = c .before in
+    let layout = k .before .before .args .layout in
+    buffer-room (layout .mode) 0 (layout .kinds) _ (c .band .ensures) _ (k .total-carriers .ensures)
 
 slice-aggregate-collect-continual : tie.Need-slice-aggregate-collect-continual
-slice-aggregate-collect-continual c = c .before .before .total-carriers .ensures ∙ sym (front-length (c .before .before .before .before .args .layout .mode) 0 (c .before .before .before .before .args .layout .kinds) _ (c .before .band .ensures) _ (c .before .before .total-carriers .ensures))
+slice-aggregate-collect-continual c =
+    let b = c .before in
+    let k = b .before in
+    let layout = k .before .before .args .layout in
+    k .total-carriers .ensures ∙ sym (front-length (layout .mode) 0 (layout .kinds) _ (b .band .ensures) _ (k .total-carriers .ensures))
 
 collect-continual-requires : tie.Need-collect-continual-requires
-collect-continual-requires c κs = (omega (arith, front-length (c .before .before .before .before .before .args .layout .mode) 0 (c .before .before .before .before .before .args .layout .kinds) _ (c .before .before .band .ensures) _ (c .before .before .before .total-carriers .ensures), sized (c .before .before .before .before .before .args .layout .mode) .band), omega (arith, front-length (c .before .before .before .before .before .args .layout .mode) 0 (c .before .before .before .before .before .args .layout .kinds) _ (c .before .before .band .ensures) _ (c .before .before .before .total-carriers .ensures), sized (c .before .before .before .before .before .args .layout .mode) .band-high))
+collect-continual-requires c κs =
+    let b = c .before .before in
+    let k = b .before in
+    let layout = k .before .before .args .layout in
+    let l = front-length (layout .mode) 0 (layout .kinds) _ (b .band .ensures) _ (k .total-carriers .ensures) in
+    (omega (arith, l, sized (layout .mode) .band), omega (arith, l, sized (layout .mode) .band-high))
 
 same-length : tie.Need-same-length
 same-length c = search needs
 
 returns : tie.Need-returns
-returns c = continual-of (c .before .before .before .before .before .before .before .before .args .layout .mode) 0 (c .before .before .before .before .before .before .before .before .args .layout .kinds) _ (c .before .before .before .before .before .band .ensures) _ _ _ _ (c .before .before .before .before .before .before .total-carriers .ensures) (c .before .before .collect-continual .ensures)
+returns c =
+    let d = c .before .before in
+    let b = d .before .before .before in
+    let k = b .before in
+    let layout = k .before .before .args .layout in
+    continual-of (layout .mode) 0 (layout .kinds) _ (b .band .ensures) _ (k .total-carriers .ensures) _ _ _ (d .collect-continual .ensures)
 
 pub continual-carriers-spec : {M : Type 1} → statement M
 continual-carriers-spec =

@@ -13,7 +13,9 @@ use Rattle.carrier_lists.proofs.count.Statement.{statement}
 use Rattle.carrier_lists.proofs.count.Tie as tie
 
 abbrev Inv-loop : tie.InvT-loop
-Inv-loop roles low high n₀ i₀ n i = (i ≤ length roles) × (n ≤ i) × (n + length (chosen (between low high) (0 + i) (drop i roles)) ≡ length (chosen (between low high) 0 roles))
+Inv-loop roles low high n₀ i₀ n i =
+    (i ≤ length roles) × (n ≤ i)
+    × (n + length (chosen (between low high) (0 + i) (drop i roles)) ≡ length (chosen (between low high) 0 roles))
 
 abbrev μ-loop : tie.MeasureT-loop
 μ-loop roles low high n₀ i₀ n i = length roles - i
@@ -34,7 +36,11 @@ loop-less : tie.Need-loop-less Inv-loop μ-loop
 loop-less c = omega arith
 
 loop-again : tie.Need-loop-again Inv-loop μ-loop
-loop-again c = (omega arith, omega arith, count-skip _ _ _ _ _ _ (c .before .before .before .loop-test .taken) (sym (c .before .is-between .ensures) ∙ not-true _ (c .if1 .taken)) (c .before .before .before .before .loop .inv .2))
+loop-again c =
+    let b = c .before in
+    let t = b .before .before in
+    let passed-over = sym (b .is-between .ensures) ∙ not-true _ (c .if1 .taken) in
+    (omega arith, omega arith, count-skip _ _ _ _ _ _ (t .loop-test .taken) passed-over (t .before .loop .inv .2))
 
 add-n : tie.Need-add-n Inv-loop μ-loop
 add-n c = omega arith
@@ -46,7 +52,11 @@ loop-less-2 : tie.Need-loop-less-2 Inv-loop μ-loop
 loop-less-2 c = omega arith
 
 loop-again-2 : tie.Need-loop-again-2 Inv-loop μ-loop
-loop-again-2 c = (omega arith, omega arith, count-keep _ _ _ _ _ _ (c .before .before .before .loop-test .taken) (sym (c .before .is-between .ensures) ∙ not-false _ (c .if1 .left)) (c .before .before .before .before .loop .inv .2))
+loop-again-2 c =
+    let b = c .before in
+    let t = b .before .before in
+    let kept = sym (b .is-between .ensures) ∙ not-false _ (c .if1 .left) in
+    (omega arith, omega arith, count-keep _ _ _ _ _ _ (t .loop-test .taken) kept (t .before .loop .inv .2))
 
 returns : tie.Need-returns Inv-loop μ-loop
 returns c = count-done _ 0 _ (c .before .loop .i) _ _ (c .loop-test .left) (c .before .loop .inv .2)

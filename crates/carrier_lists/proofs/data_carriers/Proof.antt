@@ -1,4 +1,4 @@
--- `carrier_lists::data_carriers` meets its contract: the buffer's front is the band's roles, and its parts are the segments'.
+-- `carrier_lists::data_carriers` meets its contract: the buffer's first entries are the band's roles, and their parts are the segments'.
 -- Assumes nothing.
 use mathlib.Core.Path.{sym, _∙_}
 use Rattle.carrier_lists.proofs.Buffered.{buffer-room, front-length, data-room, data-stored}
@@ -13,19 +13,36 @@ band-requires : tie.Need-band-requires
 band-requires c κs = search needs
 
 array-share-prefix-roles : tie.Need-array-share-prefix-roles
-array-share-prefix-roles c = buffer-room (c .before .before .before .args .layout .mode) (c .before .before .before .args .phase) (c .before .before .before .args .layout .kinds) _ (c .band .ensures) _ (c .before .total-carriers .ensures)
+array-share-prefix-roles c =
+    let k = c .before in
+    let args = k .before .before .args in
+    buffer-room (args .layout .mode) (args .phase) (args .layout .kinds) _ (c .band .ensures) _ (k .total-carriers .ensures)
 
 slice-aggregate-collect-data : tie.Need-slice-aggregate-collect-data
-slice-aggregate-collect-data c = c .before .before .total-carriers .ensures ∙ sym (front-length (c .before .before .before .before .args .layout .mode) (c .before .before .before .before .args .phase) (c .before .before .before .before .args .layout .kinds) _ (c .before .band .ensures) _ (c .before .before .total-carriers .ensures))
+slice-aggregate-collect-data c =
+    let b = c .before in
+    let k = b .before in
+    let args = k .before .before .args in
+    k .total-carriers .ensures
+    ∙ sym (front-length (args .layout .mode) (args .phase) (args .layout .kinds) _ (b .band .ensures) _ (k .total-carriers .ensures))
 
 collect-data-requires : tie.Need-collect-data-requires
-collect-data-requires c κs = data-room (c .before .before .before .before .before .args .layout .mode) (c .before .before .before .before .before .args .phase) (c .before .before .before .before .before .args .layout .kinds) _ (c .before .before .band .ensures) _ _ (c .before .before .before .total-carriers .ensures) (c .before .before .before .before .before .pre .0) (c .before .before .before .before .before .pre .1)
+collect-data-requires c κs =
+    let b = c .before .before in
+    let k = b .before in
+    let s = k .before .before in
+    data-room (s .args .layout .mode) (s .args .phase) (s .args .layout .kinds) _ (b .band .ensures) _ (k .total-carriers .ensures) _ (s .pre .0) (s .pre .1)
 
 same-length : tie.Need-same-length
 same-length c = search needs
 
 returns : tie.Need-returns
-returns c = data-stored (c .before .before .before .before .before .before .before .before .args .layout .mode) (c .before .before .before .before .before .before .before .before .args .phase) (c .before .before .before .before .before .before .before .before .args .layout .kinds) _ (c .before .before .before .before .before .band .ensures) _ _ (c .before .before .before .before .before .before .total-carriers .ensures) (c .before .before .collect-data .ensures)
+returns c =
+    let d = c .before .before in
+    let b = d .before .before .before in
+    let k = b .before in
+    let args = k .before .before .args in
+    data-stored (args .layout .mode) (args .phase) (args .layout .kinds) _ (b .band .ensures) _ (k .total-carriers .ensures) _ (d .collect-data .ensures)
 
 pub data-carriers-spec : {M : Type 1} → statement M
 data-carriers-spec =
