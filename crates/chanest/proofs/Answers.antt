@@ -18,7 +18,8 @@ use Rattle.frame.specs.Answers.{kinds-good}
 use Rattle.chanest.specs.declared.Current.{Current}
 use Rattle.chanest.specs.Grid.{grid, windowCode, gridCode, gridLeaves, GridEstimated}
 
-module _ {number : ModeNumber} {kinds : List ℕ} {code : ℕ} {m : Mode} {read : List ℕ} (a : AcceptedLayout number kinds code m read) (xs : List Float) (current : Current) (old : List Float) where
+module _ {number : ModeNumber} {kinds : List ℕ} {code : ℕ} {m : Mode} {read : List ℕ} (a : AcceptedLayout number kinds code m read)
+    (xs : List Float) (current : Current) (old : List Float) where
   abbrev codeOf : ModeNumber → ℕ
   codeOf k = gridCode k kinds (length xs) current (length old)
 

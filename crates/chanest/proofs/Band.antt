@@ -22,9 +22,10 @@ use Rattle.complex.specs.Complex.{Pair}
 use Rattle.spectra.specs.Spectra.{pairAt}
 use Rattle.chanest.specs.declared.Plan.{Plan}
 use Rattle.chanest.specs.Grid.{segmentPoints, gridPoints, coherentAt, valueAt, gridOf}
+use Rattle.chanest.specs.Places.{pointed}
 use Rattle.chanest.specs.Inner.{Written, Writable, scatteredPoint, continualPoint, gridBy}
 use Rattle.chanest.proofs.Writing.{kept, nothing, together, exchanged, whole}
-use Rattle.chanest.proofs.Points.{pointed, again}
+use Rattle.chanest.proofs.Points.{again}
 
 -- ---- a place's kind
 coherent-code : (b : Bool) → cond b Coherent Differential ≡ Coherent → b ≡ true

@@ -3,13 +3,11 @@
 -- Assumes nothing.
 use Prim.Native.Nat.{ℕ, _+_, _*_, _/_, _≤_, _<_}
 use mathlib.Core.List.{List}
-use mathlib.Core.Path.{_≡_, refl, ap, _∙_}
+use mathlib.Core.Path.{_≡_, ap, _∙_}
 use native.Mathlib.Omega.{arith}
 use lib.ListN.{getD, length}
 use lib.Ieee.{Float}
-use Rattle.params.specs.declared.Mode.{Mode}
-use Rattle.params.specs.declared.Mode.the-variants.{M1, M2, M3}
-use Rattle.params.specs.Params.{carriersPerSegment}
+use Rattle.params.specs.Params.{carriersPerSegment, totalCarriers}
 use Rattle.params.specs.Laws.{sized}
 use Rattle.ofdm.specs.declared.BandCarrier.{BandCarrier}
 use Rattle.complex.specs.Complex.{Pair}
@@ -19,18 +17,9 @@ use Rattle.chanest.specs.declared.Offsets.{Offsets}
 use Rattle.chanest.specs.declared.Times.{Times}
 use Rattle.chanest.specs.declared.Plan.{Plan}
 use Rattle.chanest.specs.Window.{inWindow, estimateOf}
-use Rattle.chanest.specs.Grid.{carrierOf, segmentPoints, gridPoints, inverseOf, estimateAt}
+use Rattle.chanest.specs.Grid.{carrierOf, segmentPoints, inverseOf, estimateAt}
+use Rattle.chanest.specs.Places.{pointed}
 use Rattle.chanest.specs.Inner.{spectraOf, Timed, TimesOf, Fitting, Writable}
-
--- thirteen segments' points, the edge, and one that is never written
-pub record Pointed (m : Mode) : Type 0 where
-  pub carriers : carriersPerSegment m ≡ 3 * segmentPoints m
-  pub all : gridPoints m ≡ 13 * segmentPoints m + 2
-
-pub pointed : (m : Mode) → Pointed m
-pointed M1 = record { carriers = refl; all = refl }
-pointed M2 = record { carriers = refl; all = refl }
-pointed M3 = record { carriers = refl; all = refl }
 
 -- the estimate at carrier k of a window, whose pilot is sent at the offsets o
 abbrev pub windowAt : Window → List Float → List ℕ → BandCarrier → Offsets → Pair
@@ -68,9 +57,12 @@ module _ {plan : Plan} {xs : List Float} {signs : List ℕ} {out : List Float} (
     pub small : i ≤ 1872
     small = omega (arith, pointed (plan .mode) .carriers, sized (plan .mode) .carriers-high)
 
+    -- its carrier is one of the band
+    carried : {k : BandCarrier} → k ≡ carrierOf i → k .0 < totalCarriers (plan .mode)
+    carried e = omega (arith, ap (λ (c : BandCarrier). c .0) e, pointed (plan .mode) .carriers, sized (plan .mode) .band)
+
     pub signed-there : {k : BandCarrier} → k ≡ carrierOf i → k .0 < length signs
-    signed-there e =
-        omega (arith, ap (λ (c : BandCarrier). c .0) e, ap length (W .signed) ∙ signs-length (plan .mode), pointed (plan .mode) .carriers, sized (plan .mode) .band)
+    signed-there e = omega (arith, carried e, ap length (W .signed) ∙ signs-length (plan .mode))
 
     pub room-there : 2 * i + 1 < length out
     room-there = omega (arith, W .room, pointed (plan .mode) .all)
@@ -80,7 +72,7 @@ module _ {plan : Plan} {xs : List Float} {signs : List ℕ} {out : List Float} (
     fitting e t = (
       record {
         spanned = W .spanned;
-        carrier = omega (arith, ap (λ (c : BandCarrier). c .0) e, ap (λ (v : Window). v .len) (W .window), pointed (plan .mode) .carriers, sized (plan .mode) .band);
+        carrier = omega (arith, carried e, ap (λ (v : Window). v .len) (W .window));
         inside = t .reached .inside;
       },
       t .timed,

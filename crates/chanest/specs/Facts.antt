@@ -15,7 +15,6 @@ use Rattle.lists.specs.Tests.{agree, both-left, both-right}
 use Rattle.lists.specs.Refusals.{passed}
 use Rattle.lists.specs.Select.{length-upTo}
 use Rattle.params.specs.declared.Mode.{Mode}
-use Rattle.params.specs.declared.Mode.the-variants.{M1, M2, M3}
 use Rattle.params.specs.declared.ModeNumber.{ModeNumber}
 use Rattle.params.specs.declared.ModeNumber.the-variants.{Known, Unknown}
 use Rattle.params.specs.declared.SegmentKind.the-variants.{Coherent, Differential}
@@ -39,6 +38,7 @@ use Rattle.chanest.specs.Window.{scatteredOffsets, inWindow, phaseIn, ca
 use Rattle.chanest.specs.Grid.{carrierOf, segmentPoints, gridPoints, coherentAt, isScattered, isClosing, backOf, windowOf}
 use Rattle.chanest.specs.Grid.{estimateAt, scatteredAt, continualAt, valueAt, gridOf, atLeastOne, grid, windowCode, gridCode, gridLeaves}
 use Rattle.chanest.specs.Reaching.{in-window}
+use Rattle.chanest.specs.Places.{pointed, same-place, place-in-segment, in-phase, inside, below, closes}
 use Rattle.chanest.specs.Codes.{accepted}
 
 no-closing : (a b c : Bool) → c ≡ false → (a && (b && c)) ≡ false
@@ -157,48 +157,6 @@ same-written m kinds xs current old other i h l a s = by (isScattered m kinds i)
     by false e g = closing-written m kinds xs current old i h a e g ∙ sym (closing-written m kinds xs current other i h b e g)
 
 -- ---- the points are the standard's pilots
--- how points and carriers hang together
-record Placed (m : Mode) (i : ℕ) : Type 0 where
-  carriers : carriersPerSegment m ≡ 3 * segmentPoints m
-  same-place : 3 * i / carriersPerSegment m ≡ i / segmentPoints m
-  in-phase : 3 * i % carriersPerSegment m % 12 ≡ 3 * (i % 4)
-  lowest : i % segmentPoints m ≡ 0 → 3 * i % carriersPerSegment m ≡ 0
-  inside : i / segmentPoints m < 13 → i < 13 * segmentPoints m
-  below : i < 13 * segmentPoints m → i / segmentPoints m < 13
-  closes : i % segmentPoints m ≡ 0 → i / segmentPoints m - 1 < 13 → i ≤ 13 * segmentPoints m
-
-placed : (m : Mode) (i : ℕ) → Placed m i
-placed M1 i =
-    record {
-      carriers = refl;
-      same-place = omega arith;
-      in-phase = omega arith;
-      lowest = λ h. omega arith;
-      inside = λ h. omega arith;
-      below = λ h. omega arith;
-      closes = λ h l. omega arith;
-    }
-placed M2 i =
-    record {
-      carriers = refl;
-      same-place = omega arith;
-      in-phase = omega arith;
-      lowest = λ h. omega arith;
-      inside = λ h. omega arith;
-      below = λ h. omega arith;
-      closes = λ h l. omega arith;
-    }
-placed M3 i =
-    record {
-      carriers = refl;
-      same-place = omega arith;
-      in-phase = omega arith;
-      lowest = λ h. omega arith;
-      inside = λ h. omega arith;
-      below = λ h. omega arith;
-      closes = λ h l. omega arith;
-    }
-
 segment-in : (kinds : List ℕ) (place : ℕ) → place < 13 → segmentIn (wide kinds) place ≡ wideSegment kinds (segmentAt place)
 segment-in kinds place h = agree (segmentIn (wide kinds)) (λ p. wideSegment kinds (segmentAt p)) 13 refl place h
 
@@ -218,13 +176,13 @@ module _ (m : Mode) (kinds : List ℕ) (i : ℕ) where
   segment-byte : (phase : ℕ) → i < 13 * segmentPoints m
       → getD (bandRoles m phase (wide kinds)) (3 * i) 0 ≡ roleByte (placeRole m segment phase (3 * i % carriersPerSegment m))
   segment-byte phase h =
-      let q = placed m i in
+      let q = pointed m in
       map-says m phase (wide kinds) (3 * i) (omega (arith, q .carriers))
-      ∙ rw (ne-eqb (3 * i) (13 * carriersPerSegment m) (λ e. omega (arith, q .carriers)), q .same-place, segment-in kinds _ (q .below h))
+      ∙ rw (ne-eqb (3 * i) (13 * carriersPerSegment m) (λ e. omega (arith, q .carriers)), same-place m i, segment-in kinds _ (below m i h))
 
   edge-byte : (phase : ℕ) → i ≡ 13 * segmentPoints m → getD (bandRoles m phase (wide kinds)) (3 * i) 0 ≡ roleByte EdgeCp
   edge-byte phase h =
-      let q = placed m i in
+      let q = pointed m in
       map-says m phase (wide kinds) (3 * i) (omega (arith, q .carriers))
       ∙ rw (eq-eqb (3 * i) (13 * carriersPerSegment m) (omega (arith, q .carriers)))
 
@@ -233,7 +191,7 @@ module _ (m : Mode) (kinds : List ℕ) (i : ℕ) where
   scattered-role s =
       let within = ltb-true _ _ (both-left (ltb (i / segmentPoints m) 13) _ s) in
       let kind : segment .kind ≡ Coherent = rw (both-right (ltb (i / segmentPoints m) 13) _ s) in
-      segment-byte (i % 4) (placed m i .inside within) ∙ ap roleByte (sp-role m segment (i % 4) _ kind (placed m i .in-phase))
+      segment-byte (i % 4) (inside m i within) ∙ ap roleByte (sp-role m segment (i % 4) _ kind (in-phase m i))
 
   -- and so it is one in every spectrum that its estimate reads: in each that the window has at its offsets, at that symbol's own phase
   pub scattered-sent : isScattered m kinds i ≡ true → (win : Window) → win .current .phase < 4
@@ -258,10 +216,10 @@ module _ (m : Mode) (kinds : List ℕ) (i : ℕ) where
       by : Dec (i < 13 * segmentPoints m)
           → getD (bandRoles m phase (wide kinds)) (3 * i) 0 ≡ cond (ltb i (13 * segmentPoints m)) (roleByte Cp) (roleByte EdgeCp)
       by (yes h) =
-          let differs : eqb (getD kinds (segmentAt (i / segmentPoints m)) 0) 0 ≡ false = rw (lt-ltb _ 13 (placed m i .below h)) at s in
+          let differs : eqb (getD kinds (segmentAt (i / segmentPoints m)) 0) 0 ≡ false = rw (lt-ltb _ 13 (below m i h)) at s in
           let kind : segment .kind ≡ Differential = rw differs in
           rw (lt-ltb i (13 * segmentPoints m) h)
-          (segment-byte phase h ∙ ap roleByte (cp-role m segment phase _ kind (placed m i .lowest start)))
+          (segment-byte phase h ∙ ap roleByte (cp-role m segment phase _ kind (omega (arith, place-in-segment m i, start))))
       by (no g) =
-          let e : i ≡ 13 * segmentPoints m = omega (arith, placed m i .closes start under) in
+          let e : i ≡ 13 * segmentPoints m = omega (arith, closes m i start under) in
           rw (le-ltb i (13 * segmentPoints m) (omega arith)) (edge-byte phase e)

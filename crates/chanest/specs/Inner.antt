@@ -20,7 +20,7 @@ use Rattle.chanest.specs.declared.Scattered.{Scattered}
 use Rattle.chanest.specs.declared.Plan.{Plan}
 use Rattle.chanest.specs.Line.{mean, spread}
 use Rattle.chanest.specs.Window.{scatteredOffsets, continualOffsets, inWindow, carrierIn, offsetOf}
-use Rattle.chanest.specs.Grid.{gridPoints, windowOf, scatteredAt, continualAt, gridOf}
+use Rattle.chanest.specs.Grid.{segmentPoints, gridPoints, windowOf, scatteredAt, continualAt, gridOf}
 
 -- ---- the spectra in which a carrier's pilot is sent
 abbrev pub spectrumOf : Sent → ℕ → ℕ
@@ -125,12 +125,15 @@ pub record Writable (plan : Plan) (xs : List Float) (signs : List ℕ) (out : Li
   pub continual : TimesOf (plan .win) (continualOffsets (plan .win .current)) (plan .continual)
   pub room : length out ≡ 2 * gridPoints (plan .mode)
 
--- the points of a plan
+-- the points of a plan, and those of a segment from its lowest on
 abbrev pub scatteredPoint : Plan → List Float → ℕ → Pair
 scatteredPoint plan xs i = scatteredAt (plan .mode) xs (plan .win .current) i
 
 abbrev pub continualPoint : Plan → List Float → ℕ → Pair
 continualPoint plan xs i = continualAt (plan .mode) xs (plan .win .current) i
+
+abbrev pub SegmentWritten : Plan → List Float → ℕ → List Float → List Float → Type 0
+SegmentWritten plan xs from old now = Written (scatteredPoint plan xs) from (from + segmentPoints (plan .mode)) old now
 
 abbrev pub gridBy : Plan → List ℕ → List Float → List Float → List Float
 gridBy plan kinds xs old = gridOf (plan .mode) kinds xs (plan .win .current) old

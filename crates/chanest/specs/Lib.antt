@@ -4,4 +4,5 @@ pub mod Grid
 pub mod Inner
 pub mod Codes
 pub mod Reaching
+pub mod Places
 pub mod Facts

@@ -15,7 +15,7 @@ ghost use Rattle.chanest.specs.Window.{scatteredOffsets, continualOffset
 ghost use Rattle.chanest.specs.Grid.{segmentPoints, carrierOf, backOf, inverseOf, atLeastOne, grid, windowCode, GridEstimated};
 ghost use Rattle.chanest.specs.Inner.{spectrumOf, spectraOf, Inside, Counted, Searchable, Reached, offsetsOf, Timed, TimesOf};
 ghost use Rattle.chanest.specs.Inner.{Usable, ScatteredTimes, SentAgo, Planned, Spanned, Fitting, valueIn};
-ghost use Rattle.chanest.specs.Inner.{Writable, scatteredPoint, continualPoint, Written, gridBy};
+ghost use Rattle.chanest.specs.Inner.{Writable, Written, continualPoint, SegmentWritten, gridBy};
 use complex::C32;
 use frame::FrameLayout;
 use ofdm::BandCarrier;
@@ -388,7 +388,7 @@ fn estimate_at(win: Window, times: Times, spectra: &[f32], k: BandCarrier, sign:
 // The points of a coherent segment, from its lowest on.
 fn write_segment(plan: Plan, spectra: &[f32], signs: &[u8], from: GridPoint, out: &mut [f32])
     requires { ⌜ Writable plan (now spectra) (now signs) (now out) × (from .0 + segmentPoints (plan .mode) ≤ 13 * segmentPoints (plan .mode)) ⌝ }
-    ensures { λ _. ⌜ Written (scatteredPoint plan (now (spectra .entry))) (from .0) (from .0 + segmentPoints (plan .mode)) (now (out .entry)) (now (out .exit)) ⌝ }
+    ensures { λ _. ⌜ SegmentWritten plan (now (spectra .entry)) (from .0) (now (out .entry)) (now (out .exit)) ⌝ }
 {
     let mode = plan.mode;
     let win = plan.win;
