@@ -6,3 +6,4 @@ pub mod Gathered
 pub mod Printed
 pub mod Feed
 pub mod Fed
+pub mod Sample

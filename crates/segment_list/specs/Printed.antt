@@ -42,7 +42,9 @@ prints-nothing = refl
 pub feed-optional : (input : List ℕ) → (length (openAfter [] input) ≡ 0 → ⊥) → segmentsPrints (input ++ (10 ∷ [])) ≡ segmentsPrints input
 unfolding segmentsPrints printed openAfter lastAnswer
 feed-optional input h =
-    rw (printed-pieces [] input (10 ∷ []), open-pieces [] input (10 ∷ []), ne-eqb (length (openAfter [] input)) 0 h, append-nil, append-nil)
+    let s = openAfter [] input in
+    rw (printed-pieces [] input (10 ∷ []), open-pieces [] input (10 ∷ []), ne-eqb (length s) 0 h, append-nil (lineAnswer s))
+    (append-nil (printed [] input ++ lineAnswer s))
 
 -- what the first n bytes print comes first
 pub prints-front : (input : List ℕ) (n : ℕ)

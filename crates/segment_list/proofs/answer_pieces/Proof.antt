@@ -58,8 +58,12 @@ returns c =
     let l = f .before .before .before in
     let fed = f .feed .ensures in
     let on = fed .progress (omega arith) (f .before .before .loop-test .taken) in
-    let new : Gathers (l .before .new .result) [] = rw (l .before .new .ensures) gathers-new in
-    takes-cut (l .before .before .before .before .before .args .input .now) (l .loop .from) (f .feed .result .used) (omega arith) new (l .loop .inv .4) (omega arith) (fed .takes) (fed .room (omega arith)) (rw (c .enum-told .given .1) at (p .put-cut .ensures))
+    let n = l .before in
+    let new : Gathers (n .new .result) [] = rw (n .new .ensures) gathers-new in
+    takes-cut (n .before .before .before .before .args .input .now) (l .loop .from) (f .feed .result .used) (omega arith) new (l .loop .inv .4) (omega arith)
+    (fed .takes)
+    (fed .room (omega arith))
+    (rw (c .enum-told .given .1) at (p .put-cut .ensures))
 
 loop-less : tie.Need-loop-less Inv-loop μ-loop
 loop-less c =
@@ -78,7 +82,8 @@ loop-again c =
     omega arith,
     fed .within (omega arith),
     omega (arith, whole .1),
-    takes-slice (l .before .before .before .before .before .args .input .now) (l .loop .from) (f .feed .result .used) (omega arith) (l .loop .inv .4) (takes-copied (fed .takes) (fed .room (omega arith)) (whole .0)))
+    takes-slice (l .before .before .before .before .before .args .input .now) (l .loop .from) (f .feed .result .used) (omega arith) (l .loop .inv .4)
+    (takes-copied (fed .takes) (fed .room (omega arith)) (whole .0)))
 
 finish-requires : tie.Need-finish-requires Inv-loop μ-loop
 finish-requires c κs = omega arith
@@ -104,9 +109,10 @@ returns-2 c =
     let f = p .before .before .before .before .before in
     let l = f .before .before .before in
     let held = l .loop .held in
-    let new : Gathers (l .before .new .result) [] = rw (l .before .new .ensures) gathers-new in
+    let n = l .before in
+    let new : Gathers (n .new .result) [] = rw (n .new .ensures) gathers-new in
     let read = put-read (f .finish .ensures .0) (omega (arith, f .finish .ensures .1)) in
-    let all = takes-whole (l .before .before .before .before .before .args .input .now) (l .loop .from) (f .before .before .loop-test .left) (l .loop .inv .4) in
+    let all = takes-whole (n .before .before .before .before .args .input .now) (l .loop .from) (f .before .before .loop-test .left) (l .loop .inv .4) in
     takes-all new all (omega arith) (λ s g. cut-as (last-held held s g ∙ sym read) (p .put-cut2 .ensures))
 
 pub answer-pieces-spec : {M : Type 1} → statement M

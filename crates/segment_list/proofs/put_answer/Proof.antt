@@ -52,7 +52,8 @@ returns-2 c =
     let n = c .before .before in
     let l = n .before .before .before in
     let mode = sym (n .from-number .ensures) ∙ c .enum-told .given .1 in
-    (put-as (list-answer (l .before .before .before .args .s .now) _ _ (l .line-code .ensures .0) (n .before .before .if1 .left) mode) (put-none _ _), omega arith)
+    (put-as (list-answer (l .before .before .before .args .s .now) _ _ (l .line-code .ensures .0) (n .before .before .if1 .left) mode) (put-none _ _),
+    omega arith)
 
 put-segments-requires : tie.Need-put-segments-requires
 put-segments-requires c κs =

@@ -59,7 +59,8 @@ returns-3 c =
     let q = c .before .before .before .before .before .before in
     let p = q .before .before .before .before in
     let s = p .before .before in
-    numbered (s .before .before .before .before .args .n) (then (p .put-digit4 .ensures) (then (q .put-digit5 .ensures) (c .before .before .put-digit6 .ensures)))
+    numbered (s .before .before .before .before .args .n)
+    (then (p .put-digit4 .ensures) (then (q .put-digit5 .ensures) (c .before .before .put-digit6 .ensures)))
     (simp (le-ltb _ _ (s .before .before .if1 .left), le-ltb _ _ (s .before .if2 .left), lt-ltb _ _ (s .if3 .taken)))
     (lit≤ tt)
     (omega (arith, s .before .if2 .left))
