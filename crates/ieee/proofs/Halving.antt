@@ -3,7 +3,8 @@
 -- Assumes nothing.
 use mathlib.Core.Path.{_≡_, sym, ap, _∙_, subst}
 use Prim.Native.Nat.{ℕ, zero, suc, _+_, _-_, _*_, _/_, _%_, _≤_, _<_}
-use native.Mathlib.Nat.{le-trans, le-of-eq, le-of-suc-le-suc, mul-comm, mul-assoc, mul-left-comm, mul-mul-mul-comm, add-assoc, mul-add, add-mul, suc-mul, mul-le-mul, mul-le-mul-right, le-mul-of-pos-right, div-one, div-div-eq-div-mul, div-add-mod', mod-lt, div-lt-iff-lt-mul}
+use native.Mathlib.Nat.{le-trans, le-of-eq, le-of-suc-le-suc, mul-comm, mul-assoc, mul-left-comm, mul-mul-mul-comm, add-assoc, mul-add, add-mul, suc-mul}
+use native.Mathlib.Nat.{mul-le-mul, mul-le-mul-right, le-mul-of-pos-right, div-one, div-div-eq-div-mul, div-add-mod', mod-lt, div-lt-iff-lt-mul}
 use native.Mathlib.Omega.{arith}
 use Rattle.ieee.specs.Numbers.{le-multiple}
 use Rattle.ieee.specs.Inner.{Ready, Refined, Rooted}

@@ -5,7 +5,9 @@ use mathlib.Core.Path.{_≡_, refl, sym, ap, _∙_, subst}
 use mathlib.Core.Logic.{inl, inr}
 use mathlib.Core.Bool.{Bool, true, false, not, _&&_}
 use Prim.Native.Nat.{ℕ, zero, suc, _+_, _-_, _*_, _/_, _^_, _<_, _≤_, zero-le}
-use native.Mathlib.Nat.{add-le-add, le-refl, le-trans, le-of-eq, lt-of-lt-of-le, lt-of-le-of-lt, lt-of-not-le, not-le-of-lt, zero-lt-suc, mul-pos, mul-comm, mul-right-comm, one-mul, mul-one, zero-mul, add-mul, mul-le-mul, mul-le-mul-right, mul-le-mul-left, le-of-mul-le-mul-right, le-div-iff-mul-le}
+use native.Mathlib.Nat.{add-le-add, le-refl, le-trans, le-of-eq, lt-of-lt-of-le, lt-of-le-of-lt, lt-of-not-le}
+use native.Mathlib.Nat.{not-le-of-lt, zero-lt-suc, mul-pos, mul-comm, mul-right-comm, one-mul, mul-one, zero-mul}
+use native.Mathlib.Nat.{add-mul, mul-le-mul, mul-le-mul-right, mul-le-mul-left, le-of-mul-le-mul-right, le-div-iff-mul-le}
 use native.Mathlib.Omega.{arith}
 use lib.IntN.{ℤ, pos, negsuc}
 use lib.Dec.{T, leb, ltb, eqb, leb→le, le→leb, ltb→lt, lt→ltb, eqb→eq}
@@ -19,7 +21,8 @@ use lib.Ieee.Positive.{positive, positive-finite, positive-of-value, between, va
 use lib.Ieee.Scale.{grid, overflow, round-val, round-under, grid-scale, normal-of-fraction}
 use Rattle.ieee.specs.Numbers.{three, split, le-multiple, shift, powers, fine, grows, size-gt}
 use Rattle.ieee.specs.Signs.{unlike-false, round-neg}
-use Rattle.ieee.specs.Values.{ratios, same-value, to-finer, to-coarser, neg-value, value-unique, zero-down, few-digits, in-units, digits, mul-value, shape, add-value}
+use Rattle.ieee.specs.Values.{ratios, same-value, to-finer, to-coarser, neg-value, value-unique}
+use Rattle.ieee.specs.Values.{zero-down, few-digits, in-units, digits, mul-value, shape, add-value}
 use Rattle.ieee.specs.Times.{Times}
 use Rattle.ieee.specs.Levels.{Level, Scaled, roomy, product, many, finer, wholes, constant, grain, within, two, Whole}
 

@@ -5,7 +5,9 @@ use mathlib.Core.Path.{_≡_, refl, sym, ap, _∙_, subst}
 use mathlib.Core.Bool.{Bool, true, false, not, _&&_}
 use mathlib.Core.Logic.{_⊎_, inl, inr}
 use Prim.Native.Nat.{ℕ, _+_, _-_, _*_, _^_, _<_, _≤_}
-use native.Mathlib.Nat.{le-trans, le-of-eq, lt-of-lt-of-le, lt-of-not-le, not-le-of-lt, lt-irrefl, zero-mul, one-mul, mul-comm, mul-assoc, mul-left-comm, mul-mul-mul-comm, mul-pos, mul-sub, mul-le-mul-right, le-mul-of-pos-right, mul-lt-mul-of-pos-right, lt-of-mul-lt-mul-right, eq-of-mul-eq-mul-right}
+use native.Mathlib.Nat.{le-trans, le-of-eq, lt-of-lt-of-le, lt-of-not-le, not-le-of-lt, lt-irrefl, zero-mul, one-mul}
+use native.Mathlib.Nat.{mul-comm, mul-assoc, mul-left-comm, mul-mul-mul-comm, mul-pos, mul-sub, mul-le-mul-right}
+use native.Mathlib.Nat.{le-mul-of-pos-right, mul-lt-mul-of-pos-right, lt-of-mul-lt-mul-right, eq-of-mul-eq-mul-right}
 use native.Mathlib.Omega.{arith}
 use lib.Dec.{T, ltb, eqb, ltb→lt, lt→ltb, nltb→le, eqb→eq}
 use lib.Pow.{pow-add, pow-pos, pow-mono}

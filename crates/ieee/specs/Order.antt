@@ -9,7 +9,8 @@ use native.Mathlib.Nat.{le-refl, zero-mul, zero-add, add-zero, add-comm, mul-pos
 use native.Mathlib.Omega.{arith}
 use lib.IntN.{ℤ, pos}
 use lib.Arith.{lt→nleb, le-zero}
-use lib.Dec.{T, ltb, leb, eqb, ltb→lt, lt→ltb, nleb→lt, leb→le, le→leb, eqb→eq, leb·zero, leb·suc-zero, leb·suc-suc, eqb·suc-zero, eqb·suc-suc, T-not, not-T, lit<}
+use lib.Dec.{T, ltb, leb, eqb, ltb→lt, lt→ltb, nleb→lt, leb→le, le→leb, eqb→eq, leb·zero}
+use lib.Dec.{leb·suc-zero, leb·suc-suc, eqb·suc-zero, eqb·suc-suc, T-not, not-T, lit<}
 use lib.Ieee.{Float, nan, inf, fin, Format, up, down, round, below, level, neg, div, lt, le, eq, ne, isNan}
 use lib.Ieee.Fits.{down-pos, eq→eqb, and-l, and-r, and-i}
 use lib.Ieee.Compare.{differs-from-itself}

@@ -6,7 +6,8 @@ use mathlib.Core.Path.{_≡_, refl, sym, ap, _∙_, subst}
 use mathlib.Core.Bool.{Bool, false}
 use mathlib.Core.Logic.{inl, inr}
 use Prim.Native.Nat.{ℕ, _+_, _-_, _*_, _^_, _<_, _≤_, zero-le}
-use native.Mathlib.Nat.{le-trans, le-of-eq, lt-of-le-of-lt, lt-irrefl, one-mul, zero-mul, mul-comm, mul-assoc, mul-left-comm, mul-right-comm, add-mul, le-add-left, mul-le-mul-right, eq-zero-or-pos}
+use native.Mathlib.Nat.{le-trans, le-of-eq, lt-of-le-of-lt, lt-irrefl, one-mul, zero-mul, mul-comm, mul-assoc}
+use native.Mathlib.Nat.{mul-left-comm, mul-right-comm, add-mul, le-add-left, mul-le-mul-right, eq-zero-or-pos}
 use native.Mathlib.Omega.{arith}
 use lib.IntN.{pos}
 use lib.Dec.{T, leb, leb→le, lit<}

@@ -4,7 +4,9 @@
 use mathlib.Core.Path.{_≡_, refl, sym, ap, _∙_, subst}
 use mathlib.Core.Bool.{Bool, true, false, not, _&&_, Bool·beq, cond}
 use Prim.Native.Nat.{ℕ, zero, suc, _+_, _-_, _*_, _%_, _^_, _<_, _≤_}
-use native.Mathlib.Nat.{le-refl, le-trans, le-of-eq, le-of-suc-le-suc, lt-of-not-le, not-le-of-lt, zero-lt-suc, mul-pos, mul-comm, mul-assoc, mul-left-comm, mul-right-comm, mul-mul-mul-comm, one-mul, mul-one, zero-mul, add-mul, lt-of-lt-of-le, mul-lt-mul-of-pos-right, lt-of-mul-lt-mul-right, eq-of-mul-eq-mul-right}
+use native.Mathlib.Nat.{le-refl, le-trans, le-of-eq, le-of-suc-le-suc, lt-of-not-le, not-le-of-lt, zero-lt-suc, mul-pos}
+use native.Mathlib.Nat.{mul-comm, mul-assoc, mul-left-comm, mul-right-comm, mul-mul-mul-comm, one-mul, mul-one, zero-mul}
+use native.Mathlib.Nat.{add-mul, lt-of-lt-of-le, mul-lt-mul-of-pos-right, lt-of-mul-lt-mul-right, eq-of-mul-eq-mul-right}
 use native.Mathlib.Omega.{arith}
 use lib.IntN.{ℤ, pos, negsuc}
 use lib.Dec.{T, leb, ltb, eqb, leb→le, ltb→lt, eqb→eq}
@@ -80,7 +82,8 @@ unfolding fits
 zero-down f s e v t = le-trans (le-multiple (up e) (down e) (up-pos e)) (le-trans (le-of-eq (eqb→eq (up e * down e) 1 t)) (pow-pos v))
 
 -- what `fits` says of any other
-parts : (f : Format) (s : Bool) (m : ℕ) (e : ℤ) → T (fits f (fin s (suc m) e)) → (suc m < 2 ^ prec f) × (down e ≤ 2 ^ low f) × (suc m * up e < 2 ^ suc (emax f) * down e)
+parts : (f : Format) (s : Bool) (m : ℕ) (e : ℤ) → T (fits f (fin s (suc m) e))
+    → (suc m < 2 ^ prec f) × (down e ≤ 2 ^ low f) × (suc m * up e < 2 ^ suc (emax f) * down e)
 unfolding fits
 parts f s m e t =
     let A = eqb (suc m % 2) 1 in
@@ -131,10 +134,12 @@ fits-below f (fin r zero e) s v t h =
     (eq-of-mul-eq-mul-right (down e) (down-pos e) 0 v (zero-mul (down e) ∙ sym (ap (λ (n : ℕ). n * 2 ^ low f) (zero-mul (up e)) ∙ zero-mul (2 ^ low f)) ∙ h .1))
     (pow-pos (low f + suc (emax f)))
 fits-below f (fin r (suc m) e) s v t h =
+    let top = 2 ^ suc (emax f) in
+    let end : top * 2 ^ low f ≡ 2 ^ (low f + suc (emax f)) = mul-comm top (2 ^ low f) ∙ sym (pow-add 2 (low f) (suc (emax f))) in
     lt-of-mul-lt-mul-right (down e)
     (subst (λ (n : ℕ). n < 2 ^ (low f + suc (emax f)) * down e) (h .1)
     (lt-of-lt-of-le (mul-lt-mul-of-pos-right (parts f r m e t .2) (pow-pos (low f)))
-    (le-of-eq (mul-right-comm (2 ^ suc (emax f)) (down e) (2 ^ low f) ∙ ap (λ (n : ℕ). n * down e) (mul-comm (2 ^ suc (emax f)) (2 ^ low f) ∙ sym (pow-add 2 (low f) (suc (emax f))))))))
+    (le-of-eq (mul-right-comm top (down e) (2 ^ low f) ∙ ap (λ (n : ℕ). n * down e) end))))
 
 -- ---- the product
 pub mul-value : (f : Format) (x u : Float) (s t : Bool) (a c b d : ℕ) → 0 < c → 0 < d → HasValue x s a c → HasValue u t b d

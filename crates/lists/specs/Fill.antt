@@ -62,7 +62,8 @@ fill-part f old out a (suc n) e h =
     ∙ ap (λ (k : ℕ). upTo f k ++ drop k old) next
 
 -- part by part: a part written behind what is written already
-pub part-step : (front old out part : List ℕ) (a e : ℕ) → length front ≡ a → a ≤ e → out ≡ front ++ drop a old → putMid a (e - a) out part ≡ (front ++ part) ++ drop e old
+pub part-step : (front old out part : List ℕ) (a e : ℕ) → length front ≡ a → a ≤ e → out ≡ front ++ drop a old
+    → putMid a (e - a) out part ≡ (front ++ part) ++ drop e old
 part-step front old out part a e f h o =
     let before : take a out ≡ front = ap (take a) o ∙ take-at front (drop a old) a f in
     let from : drop a out ≡ drop a old = ap (drop a) o ∙ drop-at front (drop a old) a f in
@@ -119,7 +120,8 @@ module _ (f : ℕ → List ℕ) (n : ℕ) (size : (x : ℕ) → length (f x) ≡
       let all : length (joined f xs) ≡ length xs * n = length-joined f n 0 xs (λ i l. size _) in
       let o' : out ≡ joined f xs ++ drop (length xs * n) old = o ∙ (rw q (ap (λ (z : List ℕ). joined f z ++ drop (length xs * n) old) (take-length xs))) in
       let past : length old ≤ suc (length xs * n) = omega arith in
-      let last : drop (length xs * n) old ≡ getD old (length xs * n) 0 ∷ [] = drop-cons old (length xs * n) 0 (omega arith) ∙ ap (λ (z : List ℕ). getD old (length xs * n) 0 ∷ z) (drop-of-length-le old past) in
+      let last : drop (length xs * n) old ≡ getD old (length xs * n) 0 ∷ [] =
+      drop-cons old (length xs * n) 0 (omega arith) ∙ ap (λ (z : List ℕ). getD old (length xs * n) 0 ∷ z) (drop-of-length-le old past) in
       rw (o', last) (set-at (joined f xs) (getD old (length xs * n) 0) [] v (length xs * n) all)
 
 -- the entries that pass

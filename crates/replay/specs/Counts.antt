@@ -55,8 +55,8 @@ pub none-counted : (t : Tally) (same : ℕ → Bool) → t .compared ≤ largest
 unfolding unlike
 none-counted t same h g = record { compared = kept (t .compared) h; differ = kept (t .differ) g; cut = refl }
 
-pub one-counted : (t s r : Tally) (same : ℕ → Bool) (i : ℕ) (b : Bool) → b ≡ same i → Counted t i (unlike same i) (t .cut) s → Counted s 1 (cond b 0 1) (s .cut) r
-    → Counted t (i + 1) (unlike same (i + 1)) (t .cut) r
+pub one-counted : (t s r : Tally) (same : ℕ → Bool) (i : ℕ) (b : Bool) → b ≡ same i → Counted t i (unlike same i) (t .cut) s
+    → Counted s 1 (cond b 0 1) (s .cut) r → Counted t (i + 1) (unlike same (i + 1)) (t .cut) r
 unfolding unlike
 one-counted t s r same i b e h g =
     let m = counted-more t s r i 1 (unlike same i) (cond b 0 1) (t .cut) (s .cut) h g in

@@ -40,7 +40,8 @@ loop-again : tie.Need-loop-again Inv-loop μ-loop
 loop-again c =
     let l = c .before .before .before .before in
     let s = l .before .before .before in
-    (omega arith, one-counted _ _ _ _ _ _ (c .before .has .ensures ∙ ap (holds (s .args .got .now) (l .loop .i)) (c .before .before .number-at .ensures)) (l .loop .inv .1) (c .entry .ensures))
+    let told = c .before .has .ensures ∙ ap (holds (s .args .got .now) (l .loop .i)) (c .before .before .number-at .ensures) in
+    (omega arith, one-counted _ _ _ _ _ _ told (l .loop .inv .1) (c .entry .ensures))
 
 returns : tie.Need-returns Inv-loop μ-loop
 returns c =

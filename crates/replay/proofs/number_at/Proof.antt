@@ -26,8 +26,15 @@ wide-requires-2 c κs = search needs
 
 add-result : tie.Need-add-result
 add-result c =
-    let s = c .before .before .before .before .before in
-    omega (arith, c .wide2 .ensures, c .before .shared-slice-known3 .given (s .args .at), c .before .before .wide .ensures, c .before .before .before .shared-slice-known2 .given (s .args .at + 1))
+    let high = c .before .before in
+    let at = high .before .before .before .args .at in
+    omega (
+      arith,
+      c .wide2 .ensures,
+      c .before .shared-slice-known3 .given at,
+      high .wide .ensures,
+      high .before .shared-slice-known2 .given (at + 1),
+    )
 
 returns : tie.Need-returns
 returns c = search needs

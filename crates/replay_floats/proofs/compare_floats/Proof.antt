@@ -50,7 +50,9 @@ loop-less c = omega arith
 loop-again : tie.Need-loop-again Inv-loop μ-loop
 loop-again c =
     let l = c .before .before .before .before .before in
-    (omega arith, one-counted _ _ _ _ _ _ (λ j. eqb (c .before .before .bits-32 .ensures j) (c .before .word-at .ensures j)) (l .loop .inv .1) (c .entry .ensures))
+    let got = c .before .before .bits-32 .ensures in
+    let stored = c .before .word-at .ensures in
+    (omega arith, one-counted _ _ _ _ _ _ (λ j. eqb (got j) (stored j)) (l .loop .inv .1) (c .entry .ensures))
 
 returns : tie.Need-returns Inv-loop μ-loop
 returns c =
