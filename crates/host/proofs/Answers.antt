@@ -25,7 +25,7 @@ use Rattle.pilot_phase.specs.declared.PilotAnswer.{PilotAnswer}
 use Rattle.pilot_phase.specs.PilotPhase.{PhaseDetected, phaseNumber, pilotsGiven, phaseGiven, shareGiven}
 use Rattle.shift.specs.declared.ShiftAnswer.{ShiftAnswer}
 use Rattle.shift.specs.Shift.{Shifted, shiftNumber, shiftGiven}
-use Rattle.host.specs.Host.{ifAccepted, CarrierBin, ContinualCount, ShiftLent, SamplesLent, GuessLent, SoftLent, PhaseLent}
+use Rattle.host.specs.Host.{besidePhase, CarrierBin, ContinualCount, ShiftLent, SamplesLent, GuessLent, SoftLent, PhaseLent}
 
 -- ---- an answer that is a struct with its number
 pub kept : {A : Type 0} (r code : ℕ) (x y : A) → r ≡ code → (r ≡ 0 → ⊥) → y ≡ cond (eqb code 0) x y
@@ -79,7 +79,7 @@ guess-told f m g o t x y e =
 pub phase-told : {mode : ModeNumber} {kinds : List ℕ} {xs : List Float} {r : PilotAnswer} {a : PhaseAnswer} (f p : ℕ) (s : Float) (cs : List ℕ) (l : ℕ)
     → PhaseDetected mode kinds xs r → r .answer ≡ a
     → PhaseLent mode kinds xs f p s cs l (phaseNumber a) (pilotsGiven a f) (phaseGiven a p) (shareGiven a s)
-    (ifAccepted (phaseNumber a) (r .counts) cs) (ifAccepted (phaseNumber a) (r .lead) l)
+    (besidePhase a (r .counts) cs) (besidePhase a (r .lead) l)
 phase-told f p s cs l h e =
     let q = sym e ∙ h .answer in
     record {
@@ -87,6 +87,6 @@ phase-told f p s cs l h e =
       found = ap (λ z. pilotsGiven z f) q;
       phase = ap (λ z. phaseGiven z p) q;
       share = ap (λ z. shareGiven z s) q;
-      counts = λ i. ifAccepted (phaseNumber (q i)) (h .counts i) cs;
-      lead = λ i. ifAccepted (phaseNumber (q i)) (h .lead i) l;
+      counts = λ i. besidePhase (q i) (h .counts i) cs;
+      lead = λ i. besidePhase (q i) (h .lead i) l;
     }

@@ -182,7 +182,8 @@ pub extern "C" fn sillurwy_integer_cfo(
 {
     match shift::integer_cfo(mode, spectra, bound, ratios) {
         ShiftAnswer::Found(found) => {
-            *shift = found.shift;
+            let z = found.shift;
+            *shift = z;
             *score = found.score;
             0
         }
