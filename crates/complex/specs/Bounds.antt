@@ -12,7 +12,7 @@ use lib.ListN.{length}
 use lib.Ieee.{Float, Format, binary32, binary64, size, add, sub, mul, div, lt, ofBits}
 use Rattle.ieee.specs.Constants.{plusZero, plus-zero-is, half}
 use Rattle.ieee.specs.Levels as Levels
-use Rattle.ieee.specs.Levels.{Level, Scaled, Whole, two, wholes, constant, many, roomy}
+use Rattle.ieee.specs.Levels.{Level, Scaled, wholes, constant, many, roomy}
 use Rattle.ieee.specs.Gain.{roomy-one, within-scaled, gained, times-scaled, plus-scaled, minus-scaled, one-scaled, zero-scaled, constant-scaled, times-of}
 use Rattle.ieee.specs.Sums.{total, prefixes, Each, total-scaled, prefixes-scaled}
 use Rattle.ieee.specs.Times.{lt-times, quotient-times}

@@ -7,7 +7,6 @@ use Rattle.params.specs.declared.Mode.{Mode}
 use Rattle.params.specs.declared.Mode.the-variants.{M1, M2, M3}
 use Rattle.params.specs.declared.ModeNumber.{ModeNumber}
 use Rattle.params.specs.declared.ModeNumber.the-variants as mode-number
-use Rattle.params.specs.declared.GuardInterval.{GuardInterval}
 use Rattle.params.specs.declared.GuardInterval.the-variants.{G1_4, G1_8, G1_16, G1_32}
 use Rattle.params.specs.declared.GuardDenominator.{GuardDenominator}
 use Rattle.params.specs.declared.GuardDenominator.the-variants as guard-denominator
@@ -46,12 +45,6 @@ abbrev pub fftSize : Mode → ℕ
 fftSize M1 = 2048
 fftSize M2 = 4096
 fftSize M3 = 8192
-
-abbrev pub denominatorOf : GuardInterval → ℕ
-denominatorOf G1_4 = 4
-denominatorOf G1_8 = 8
-denominatorOf G1_16 = 16
-denominatorOf G1_32 = 32
 
 abbrev pub guardFrom : ℕ → GuardDenominator
 guardFrom d =

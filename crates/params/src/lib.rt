@@ -3,7 +3,7 @@
 //
 // A code from outside becomes an enum once, at the border; behind it a wrong code cannot occur.
 ghost use mathlib.Core.Path.{_≡_};
-ghost use Rattle.params.specs.Params.{modeNumber, modeFrom, denominatorOf, guardFrom, kindCode, kindFrom};
+ghost use Rattle.params.specs.Params.{modeNumber, modeFrom, guardFrom, kindCode, kindFrom};
 ghost use Rattle.params.specs.Params.{carriersPerSegment, dataCarriersPerSegment, totalCarriers, fftSize};
 
 // System mode.
@@ -105,18 +105,7 @@ pub enum GuardDenominator {
 }
 
 impl GuardInterval {
-    // 4, 8, 16 or 32.
-    pub fn denominator(self) -> usize
-        ensures { λ r. ⌜ r ≡ denominatorOf self ⌝ }
-    {
-        match self {
-            GuardInterval::G1_4 => 4,
-            GuardInterval::G1_8 => 8,
-            GuardInterval::G1_16 => 16,
-            GuardInterval::G1_32 => 32,
-        }
-    }
-
+    // 4, 8, 16 or 32 is one.
     pub fn from_denominator(d: usize) -> GuardDenominator
         ensures { λ r. ⌜ r ≡ guardFrom d ⌝ }
     {
