@@ -8,6 +8,7 @@ ghost use lib.ListN.{length};
 use guess::GuardSearch;
 use guess::ModeGuess;
 use guess::SamplesNeeded;
+use pilot_phase::PhaseAnswer;
 use pilot_phase::PilotPhase;
 use replay::Head;
 use replay::Tally;
@@ -92,11 +93,14 @@ struct Shift {
 
 fn shift_of(answer: ShiftAnswer) -> Shift {
     match answer {
-        ShiftAnswer::Shift(z, s) => Shift {
-            code: 0,
-            shift: z,
-            score: s,
-        },
+        ShiftAnswer::Found(found) => {
+            let z = found.shift;
+            Shift {
+                code: 0,
+                shift: z,
+                score: found.score,
+            }
+        }
         ShiftAnswer::Refused(code) => Shift {
             code: code,
             shift: 0,
@@ -197,8 +201,10 @@ fn compare_single(asked: Asked, got: Single, tally: Tally) -> Tally {
     check_number(got.value, coded)
 }
 
-// An answer of the pilot phase; where there are no scattered pilots, phase and share are zeros.
+// An answer of the pilot phase; where it is refused, or there are no scattered pilots, the others are
+// zeros.
 struct Phase {
+    code: u8,
     found: u64,
     phase: u64,
     share: f32,
@@ -208,18 +214,29 @@ fn wide_byte(byte: u8) -> u64 {
     byte as u64
 }
 
-fn phase_of(answer: PilotPhase) -> Phase {
+fn no_phase(code: u8) -> Phase {
+    Phase {
+        code: code,
+        found: 0,
+        phase: 0,
+        share: 0.0,
+    }
+}
+
+fn phase_of(answer: PhaseAnswer) -> Phase {
     match answer {
-        PilotPhase::NoScatteredPilots => Phase {
-            found: 0,
-            phase: 0,
-            share: 0.0,
-        },
-        PilotPhase::Phase(p, share) => Phase {
-            found: 1,
-            phase: wide_byte(p),
-            share: share,
-        },
+        PhaseAnswer::Detected(pilots) => {
+            let PilotPhase::Phase(p, share) = pilots else {
+                return no_phase(0);
+            };
+            Phase {
+                code: 0,
+                found: 1,
+                phase: wide_byte(p),
+                share: share,
+            }
+        }
+        PhaseAnswer::Refused(code) => no_phase(code),
     }
 }
 
@@ -233,14 +250,15 @@ fn compare_phase(got: Phase, counts: [u32; 4], lead: u32, tally: Tally) -> Tally
 }
 
 fn check_phase(asked: Asked, kinds: &[u8], floats: &[f32], tally: Tally) -> Tally {
-    let answer = pilot_phase::detect_sp_phase(asked.mode, kinds, floats);
-    let coded = tally.entry(answer.code == asked.code);
+    let result = pilot_phase::detect_sp_phase(asked.mode, kinds, floats);
+    let answer = result.answer;
+    let got = phase_of(answer);
+    let coded = tally.entry(got.code == asked.code);
     if asked.code != 0 {
         return coded;
     }
-    let phase = answer.phase;
-    let counts = answer.counts;
-    compare_phase(phase_of(phase), counts, answer.lead, coded)
+    let counts = result.counts;
+    compare_phase(got, counts, result.lead, coded)
 }
 
 // An answer of the guess; where nothing is found, the guess is of zeros.

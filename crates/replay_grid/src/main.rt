@@ -5,6 +5,7 @@
 ghost use Prim.Native.Nat.{_≤_};
 ghost use mathlib.Core.Path.{_≡_};
 ghost use lib.ListN.{length};
+use chanest::Current;
 use replay::Head;
 use replay::Tally;
 
@@ -52,15 +53,12 @@ fn check_grid(asked: Asked, kinds: &[u8], floats: &[f32], tally: Tally) -> Tally
     let lent = asked.lent;
     let mut space = replay_floats::lent_room();
     let grid: &mut [f32] = &mut space;
-    let code = chanest::estimate_grid(
-        asked.mode,
-        asked.phase,
-        kinds,
-        floats,
-        asked.index,
-        asked.w,
-        &mut grid[0..lent],
-    );
+    let current = Current {
+        phase: asked.phase,
+        index: asked.index,
+        w: asked.w,
+    };
+    let code = chanest::estimate_grid(asked.mode, kinds, floats, current, &mut grid[0..lent]);
     compare_grid(asked, code, grid, tally)
 }
 
