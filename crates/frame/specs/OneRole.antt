@@ -28,7 +28,6 @@ use Rattle.frame.specs.declared.CarrierRole.{CarrierRole}
 use Rattle.frame.specs.declared.CarrierRole.the-variants.{Data, Sp, Cp, Tmcc, Ac, EdgeCp}
 use Rattle.frame.specs.Roles.{OfdmSegment, roleByte, firstClaim, placeRole, segmentRoles, bandRoles, wideSegment, wide, between}
 use Rattle.frame.specs.Rules.{placeHas, bandSize, segmentIn, hasRole, carriersOf, everyRole}
-
 pub use Rattle.frame.specs.Roles.{firstClaim as first}
 
 -- every segment uses a row of the tables
@@ -142,7 +141,7 @@ once : (role : CarrierRole) → passes (λ r. eqb (roleByte role) (roleByte r)) 
 once role = eqb-true _ _ (every-role (λ role. eqb (passes (λ r. eqb (roleByte role) (roleByte r)) everyRole) 1) refl role)
 
 -- the test for one byte
-between-one : (a n : ℕ) → between a a n ≡ eqb n a
+pub between-one : (a n : ℕ) → between a a n ≡ eqb n a
 between-one a n = by (decLt n a) (decLt a n)
   where
     by : Dec (n < a) → Dec (a < n) → between a a n ≡ eqb n a
