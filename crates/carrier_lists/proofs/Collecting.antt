@@ -1,22 +1,16 @@
 -- The loop that stores the carriers whose role passes: what is left to choose, stored behind what is stored, is the whole.
 -- Assumes nothing.
 use Prim.Native.Nat.{ℕ, suc, _+_, _≤_, _<_}
-use mathlib.Core.Bool.{Bool, true, false, cond}
-use mathlib.Core.List.{List, [], _∷_}
+use mathlib.Core.Bool.{Bool, true, false}
+use mathlib.Core.List.{List}
 use mathlib.Core.Path.{_≡_, refl, _∙_}
 use native.Mathlib.Numerals.{add-one}
 use native.Mathlib.Nat.{add-zero}
-use native.Mathlib.Decide.{decLt}
 use native.Mathlib.Omega.{arith}
-use borrow.Author.Tests.{le-leb, lt-leb}
 use lib.ListN.{length, getD, drop, set, length-set, drop-of-length-le}
 use lib.Seq.{sets}
 use Rattle.lists.specs.Lists.{chosen}
 use Rattle.lists.specs.Fill.{chosen-skip, chosen-take}
-use Rattle.tables.specs.Places.{one}
-use Rattle.frame.specs.declared.AcKind.the-variants.{Ac2}
-use Rattle.frame.specs.declared.CarrierRole.the-variants.{Cp, Ac}
-use Rattle.frame.specs.Roles.{roleByte, between, isTmcc, isAc, isCpByte}
 
 -- how many are left to choose, with those that were chosen
 module _ (t : ℕ → Bool) (first : ℕ) (roles : List ℕ) (i n total : ℕ) (h : i < length roles) where
@@ -74,53 +68,3 @@ module _ (t : ℕ → Bool) (first : ℕ) (roles old : List ℕ) (at : ℕ) wher
 
   pub all-stored : (i n : ℕ) (out : List ℕ) → length roles ≤ i → Left i n out → out ≡ sets old at (chosen t first roles)
   all-stored i n out h l = rw (drop-of-length-le roles h) at (l .stored)
-
--- the bytes of CP, TMCC, AC1 and AC2 follow one another: the carriers of all four are those of each
-one-of : (b : ℕ) → one (between (roleByte Cp) (roleByte (Ac Ac2)) b) ≡ one (isTmcc b) + one (isAc b) + one (isCpByte b)
-one-of b = by (decLt b 2) (decLt b 3) (decLt b 4) (decLt 5 b)
-  where
-    by : Dec (b < 2) → Dec (b < 3) → Dec (b < 4) → Dec (5 < b)
-        → one (between (roleByte Cp) (roleByte (Ac Ac2)) b) ≡ one (isTmcc b) + one (isAc b) + one (isCpByte b)
-    by (yes l) d e f = rw (lt-leb 2 b l, lt-leb 3 b (omega arith), lt-leb 4 b (omega arith))
-    by (no l) (yes m) e f = let q : b ≡ 2 = omega arith in rw q
-    by (no l) (no m) (yes n) f = let q : b ≡ 3 = omega arith in rw q
-    by (no l) (no m) (no n) (yes h) =
-        rw (
-          le-leb 2 b (omega arith),
-          le-leb 3 b (omega arith),
-          le-leb 4 b (omega arith),
-          lt-leb b 5 h,
-          lt-leb b 3 (omega arith),
-          lt-leb b 2 (omega arith),
-        )
-    by (no l) (no m) (no n) (no h) =
-        rw (
-          le-leb 2 b (omega arith),
-          le-leb 3 b (omega arith),
-          le-leb 4 b (omega arith),
-          le-leb b 5 (omega arith),
-          lt-leb b 3 (omega arith),
-          lt-leb b 2 (omega arith),
-        )
-
-pub counted-together : (k : ℕ) (roles : List ℕ)
-    → length (chosen (between (roleByte Cp) (roleByte (Ac Ac2))) k roles)
-    ≡ length (chosen isTmcc k roles) + length (chosen isAc k roles) + length (chosen isCpByte k roles)
-counted-together k [] = refl
-counted-together k (b ∷ roles) =
-    omega (
-      arith,
-      one-of b,
-      counted-together (suc k) roles,
-      more (between (roleByte Cp) (roleByte (Ac Ac2))),
-      more isTmcc,
-      more isAc,
-      more isCpByte,
-    )
-  where
-    more : (t : ℕ → Bool) → length (chosen t k (b ∷ roles)) ≡ one (t b) + length (chosen t (suc k) roles)
-    more t = by (t b)
-      where
-        by : (q : Bool) → length (cond q (k ∷ chosen t (suc k) roles) (chosen t (suc k) roles)) ≡ one q + length (chosen t (suc k) roles)
-        by true = omega arith
-        by false = omega arith

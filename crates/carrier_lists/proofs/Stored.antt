@@ -18,12 +18,10 @@ use Rattle.params.specs.Laws.{sized}
 use Rattle.ofdm.specs.Band.{placeOf, firstCarrier}
 use Rattle.ofdm.specs.Laws.{place-below, segment-ends}
 use Rattle.carrier_lists.specs.declared.ContinualList.the-variants.{Count, Refused}
-use Rattle.frame.specs.declared.AcKind.the-variants.{Ac2}
-use Rattle.frame.specs.declared.CarrierRole.the-variants.{Cp, Ac}
-use Rattle.frame.specs.Roles.{roleByte, between, isData, isTmcc, isAc, isCpByte}
+use Rattle.frame.specs.Roles.{isData, isTmcc, isAc, isCpByte}
 use Rattle.carrier_lists.specs.CarrierLists.{continualIn, storedFirst}
+use Rattle.carrier_lists.specs.ContinualCount.{isContinual, groups-counted, continual-count}
 use Rattle.carrier_lists.specs.Inner.{Room, Collected, DataRoom, dataIn, ContinualRoom, Continual}
-use Rattle.carrier_lists.proofs.Collecting.{counted-together}
 
 pub chosen-fewer : (t : ℕ → Bool) (k : ℕ) (xs : List ℕ) → length (chosen t k xs) ≤ length xs
 chosen-fewer t k [] = omega arith
@@ -127,27 +125,29 @@ module _ (roles : List ℕ) where
   abbrev cp : List ℕ
   cp = chosen isCpByte 0 roles
 
-  pub continual-count : (n : ℕ) → n ≡ length (chosen (between (roleByte Cp) (roleByte (Ac Ac2))) 0 roles) → n + 1 ≡ length (continualIn roles)
-  continual-count n e =
-      let edge = (length roles - 1) ∷ [] in
-      rw (e ∙ counted-together 0 roles, length-append tmcc (ac ++ (cp ++ edge)), length-append ac (cp ++ edge), length-append cp edge)
-      (omega arith)
+  -- n is what the code counts, without the edge
+  module _ (old : List ℕ) (n : ℕ) (e : n ≡ length (chosen isContinual 0 roles)) where
+    with-edge : n + 1 ≡ length (continualIn roles)
+    with-edge = omega (arith, continual-count roles)
 
-  module _ (old : List ℕ) (n : ℕ) (e : n ≡ length (continualIn roles)) where
-    pub refused-short : length old < n → Continual roles old (Refused 7) old
+    pub refused-short : length old < n + 1 → Continual roles old (Refused 7) old
     refused-short h =
-        let t = lt-leb (length (continualIn roles)) (length old) (rw e at h) in
+        let t = lt-leb (length (continualIn roles)) (length old) (rw with-edge at h) in
         record { answer = rw t; leaves = rw t }
 
-    pub stored-whole : n ≤ length old → (out' : List ℕ) → out' ≡ storedFirst (continualIn roles) old → Continual roles old (Count n) out'
-    stored-whole h out' w =
-        let t = le-leb (length (continualIn roles)) (length old) (rw e at h) in
-        record { answer = rw (e, t); leaves = rw t w }
+    module _ (h : n + 1 ≤ length old) where
+      pub has-all-room : length (continualIn roles) ≤ length old
+      has-all-room = rw with-edge at h
+
+      pub stored-whole : (out' : List ℕ) → out' ≡ storedFirst (continualIn roles) old → Continual roles old (Count (n + 1)) out'
+      stored-whole out' w =
+          let t = le-leb (length (continualIn roles)) (length old) has-all-room in
+          record { answer = rw (with-edge, t); leaves = rw t w }
 
   -- what the code stores, group after group
   module _ (old : List ℕ) (r : ContinualRoom roles old) where
     sizes : length tmcc + length ac + length cp + 1 ≤ length old
-    sizes = rw (← counted-together 0 roles, continual-count _ refl) (r .fits)
+    sizes = omega (arith, groups-counted 0 roles, continual-count roles, r .fits)
 
     pub tmcc-room : Room roles 3 3 0 old 0
     tmcc-room = record { fits = omega (arith, sizes); small = omega (arith, r .few) }

@@ -16,10 +16,10 @@ use Rattle.tables.specs.Places.{tmccOf, ac1Of, ac2Of, isSp, isCp, claims, one}
 use Rattle.tables.specs.Rule.{full}
 use Rattle.ofdm.specs.Band.{order, placeOf, firstCarrier}
 use Rattle.frame.specs.declared.CarrierRole.the-variants.{Data}
-use Rattle.frame.specs.Roles.{OfdmSegment, roleByte, placeRole, segmentRoles, bandRoles, wideSegment, wide, isData}
+use Rattle.frame.specs.Roles.{OfdmSegment, roleByte, firstClaim, placeRole, segmentRoles, bandRoles, wideSegment, wide, isData}
 use Rattle.carrier_lists.specs.CarrierLists.{segmentData, dataList}
 use Rattle.frame.specs.Rules.{carriersOf}
-use Rattle.frame.specs.OneRole.{first, role-carriers, wide-rows}
+use Rattle.frame.specs.OneRole.{role-carriers, wide-rows}
 use Rattle.frame.specs.BySegment.{by-segment}
 
 -- a place is data where no other role claims it
@@ -28,7 +28,7 @@ data-place : (mode : Mode) (s : OfdmSegment) (phase p : ℕ)
 unfolding placeRole claims
 data-place mode s phase p =
     same-true _ _
-    (always5-at (λ sp cp t a b. same (isData (roleByte (first sp cp t a b))) (eqb (one sp + (one cp + (one t + (one a + one b)))) 0)) refl
+    (always5-at (λ sp cp t a b. same (isData (roleByte (firstClaim sp cp t a b))) (eqb (one sp + (one cp + (one t + (one a + one b)))) 0)) refl
     (isSp (s .kind) phase p) (isCp (s .kind) p) (memb p (tmccOf mode (s .kind) (s .row)))
     (memb p (ac1Of mode (s .kind) (s .row))) (memb p (ac2Of mode (s .kind) (s .row))))
 

@@ -28,7 +28,8 @@ module _ (number : ModeNumber) (kinds : List ℕ) (code : ℕ) (m : Mode) (read 
     unfolding layoutCode symbolCode symbolLeaves
     refused-layout h = by number (a .refusal)
       where
-        tested : (k : Mode) (good : Bool) → areKinds kinds ≡ good → code ≡ layoutCode (Known k) kinds → SymbolAnswer size list (Known k) phase kinds out code out
+        tested : (k : Mode) (good : Bool) → areKinds kinds ≡ good → code ≡ layoutCode (Known k) kinds
+            → SymbolAnswer size list (Known k) phase kinds out code out
         tested k true g e = absurd (h (rw g at e))
         tested k false g e = record { code = rw g (rw g at e); leaves = rw g }
 

@@ -2,7 +2,7 @@
 -- from them to `Roles` are in proofs/.
 -- Assumes nothing.
 use Prim.Native.Nat.{ℕ, _≤_, _<_}
-use mathlib.Core.Bool.{Bool, cond}
+use mathlib.Core.Bool.{Bool, false}
 use mathlib.Core.List.{List, [], _∷_}
 use mathlib.Core.Path.{_≡_}
 use lib.ListN.{length, getD, take, set}
@@ -13,13 +13,12 @@ use Rattle.params.specs.declared.SegmentKind.{SegmentKind}
 use Rattle.params.specs.Params.{carriersPerSegment}
 use Rattle.tables.specs.declared.Positions.{Positions}
 use Rattle.tables.specs.Places.{isSp, isCp}
-use Rattle.frame.specs.declared.CarrierRole.the-variants.{Data, Sp, Cp}
-use Rattle.frame.specs.Roles.{roleByte}
+use Rattle.frame.specs.Roles.{roleByte, firstClaim}
 use Rattle.frame.specs.Operations.{areKinds, heldKinds, layoutCode, layoutMode, layoutKinds}
 
 -- the role byte of a place as far as pilots decide it
 abbrev pub pilotByte : SegmentKind → ℕ → ℕ → ℕ
-pilotByte kind phase p = cond (isSp kind phase p) (roleByte Sp) (cond (isCp kind p) (roleByte Cp) (roleByte Data))
+pilotByte kind phase p = roleByte (firstClaim (isSp kind phase p) (isCp kind p) false false false)
 
 -- out with role at each of the places
 unfoldable pub markedAt : List ℕ → ℕ → List ℕ → List ℕ

@@ -4,7 +4,7 @@
 use Prim.Native.Nat.{ℕ, zero, suc, _+_, _*_, _/_, _%_, _≤_, _<_}
 use mathlib.Core.Bool.{Bool, true, false, cond, not, _||_}
 use mathlib.Core.List.{List, [], _∷_, map, Perm}
-use mathlib.Core.Path.{_≡_, refl, sym, ap, _∙_}
+use mathlib.Core.Path.{_≡_, refl, sym, ap, subst, _∙_}
 use native.Mathlib.Omega.{arith}
 use native.Mathlib.Nat.{le-of-suc-le-suc, not-suc-le-zero, div-add-mod', div-lt-iff-lt-mul, mod-lt}
 use native.Mathlib.Decide.{decLt}
@@ -26,8 +26,9 @@ use Rattle.ofdm.specs.Band.{order}
 use Rattle.frame.specs.declared.AcKind.the-variants.{Ac1, Ac2}
 use Rattle.frame.specs.declared.CarrierRole.{CarrierRole}
 use Rattle.frame.specs.declared.CarrierRole.the-variants.{Data, Sp, Cp, Tmcc, Ac, EdgeCp}
-use Rattle.frame.specs.Roles.{OfdmSegment, roleByte, placeRole, segmentRoles, bandRoles, wideSegment, wide, between}
+use Rattle.frame.specs.Roles.{OfdmSegment, roleByte, firstClaim, placeRole, segmentRoles, bandRoles, wideSegment, wide, between}
 use Rattle.frame.specs.Rules.{placeHas, bandSize, segmentIn, hasRole, carriersOf, everyRole}
+pub use Rattle.frame.specs.Roles.{firstClaim as first}
 
 -- every segment uses a row of the tables
 abbrev pub rowsBelow : List OfdmSegment → Type 0
@@ -67,11 +68,7 @@ listed EdgeCp = (lit< tt, refl)
 pub every-role : (f : CarrierRole → Bool) → allBelow (λ n. f (getD everyRole n Data)) 7 ≡ true → (r : CarrierRole) → f r ≡ true
 every-role f e r = rw (listed r .1) at (allBelow-at (λ n. f (getD everyRole n Data)) 7 e (roleByte r) (listed r .0))
 
--- a place whose tests sp, cp, t, a and b say which of SP, CP, TMCC, AC1 and AC2 claim it: its role in the map
-abbrev pub first : Bool → Bool → Bool → Bool → Bool → CarrierRole
-first sp cp t a b = cond sp Sp (cond cp Cp (cond t Tmcc (cond a (Ac Ac1) (cond b (Ac Ac2) Data))))
-
--- and what each role's own rule says
+-- what each role's own rule says of a place, by the tests that `firstClaim` asks
 abbrev ruled : CarrierRole → Bool → Bool → Bool → Bool → Bool → Bool
 ruled Data sp cp t a b = not (sp || (cp || (t || (a || b))))
 ruled Sp sp cp t a b = sp
@@ -85,12 +82,12 @@ ruled EdgeCp sp cp t a b = false
 abbrev ruleTest : CarrierRole → Bool → Bool → Bool → Bool → Bool → Bool
 ruleTest r sp cp t a b =
     cond (leb (one sp + (one cp + (one t + (one a + one b)))) 1)
-    (same (ruled r sp cp t a b) (eqb (roleByte (first sp cp t a b)) (roleByte r)))
+    (same (ruled r sp cp t a b) (eqb (roleByte (firstClaim sp cp t a b)) (roleByte r)))
     true
 
 -- where at most one role claims a place, each rule says whether its role is the first that claims it
 only-first : (r : CarrierRole) (sp cp t a b : Bool) → one sp + (one cp + (one t + (one a + one b))) ≤ 1
-    → ruled r sp cp t a b ≡ eqb (roleByte (first sp cp t a b)) (roleByte r)
+    → ruled r sp cp t a b ≡ eqb (roleByte (firstClaim sp cp t a b)) (roleByte r)
 only-first r sp cp t a b h =
     same-true _ _ (rw (le-leb _ _ h) at (always5-at (ruleTest r) (every-role (λ r. always5 (ruleTest r)) refl r) sp cp t a b))
 
@@ -144,7 +141,7 @@ once : (role : CarrierRole) → passes (λ r. eqb (roleByte role) (roleByte r)) 
 once role = eqb-true _ _ (every-role (λ role. eqb (passes (λ r. eqb (roleByte role) (roleByte r)) everyRole) 1) refl role)
 
 -- the test for one byte
-between-one : (a n : ℕ) → between a a n ≡ eqb n a
+pub between-one : (a n : ℕ) → between a a n ≡ eqb n a
 between-one a n = by (decLt n a) (decLt a n)
   where
     by : Dec (n < a) → Dec (a < n) → between a a n ≡ eqb n a
@@ -238,3 +235,10 @@ module _ (mode : Mode) (phase : ℕ) (segments : List OfdmSegment) where
         sorted-perm (λ r k. hasRole mode phase segments k r) everyRole (bandSize mode segments) (λ k h.
         passes-same (hasRole mode phase segments k) (λ r. eqb (roleByte (roleAt mode phase segments k)) (roleByte r)) everyRole (has-one k h)
         ∙ once (roleAt mode phase segments k))
+
+-- document 01's words, for the wide band: of a mode, any kinds and any phase, the seven roles' carriers joined rearrange 0 to k_total - 1
+pub wide-rearranged : (mode : Mode) (kinds : List ℕ) (phase : ℕ) → phase < 4
+    → Perm (joined (carriersOf mode phase (wide kinds)) everyRole) (range (totalCarriers mode))
+wide-rearranged mode kinds phase in-cycle =
+    subst (λ (n : ℕ). Perm (joined (carriersOf mode phase (wide kinds)) everyRole) (range n)) (wide-size mode kinds)
+    (rearranged mode phase (wide kinds) (wide-rows kinds) in-cycle)

@@ -34,15 +34,15 @@ pub record OfdmSegment : Type 0 where
 abbrev pub ofdmSegment : ℕ → SegmentKind → OfdmSegment
 ofdmSegment row kind = record { row = row; kind = kind }
 
+-- the role of a place, whose tests sp, cp, t, a and b say whether SP, CP, TMCC, AC1 and AC2 claim it: the first that does; the rest is data
+abbrev pub firstClaim : Bool → Bool → Bool → Bool → Bool → CarrierRole
+firstClaim sp cp t a b = cond sp Sp (cond cp Cp (cond t Tmcc (cond a (Ac Ac1) (cond b (Ac Ac2) Data))))
+
 -- the role of place p of a segment
 unfoldable pub placeRole : Mode → OfdmSegment → ℕ → ℕ → CarrierRole
 placeRole mode s phase p =
-    cond (isSp (s .kind) phase p) Sp
-    (cond (isCp (s .kind) p) Cp
-    (cond (memb p (tmccOf mode (s .kind) (s .row))) Tmcc
-    (cond (memb p (ac1Of mode (s .kind) (s .row))) (Ac Ac1)
-    (cond (memb p (ac2Of mode (s .kind) (s .row))) (Ac Ac2)
-    Data))))
+    firstClaim (isSp (s .kind) phase p) (isCp (s .kind) p) (memb p (tmccOf mode (s .kind) (s .row)))
+    (memb p (ac1Of mode (s .kind) (s .row))) (memb p (ac2Of mode (s .kind) (s .row)))
 
 -- the role bytes of a segment's carriers, lowest first
 unfoldable pub segmentRoles : Mode → ℕ → OfdmSegment → List ℕ

@@ -12,7 +12,18 @@ use Rattle.prbs.specs.Signs.{xor, stepped, after}
 first-ten : (d : List ℕ) → length d ≡ 11
     → take 10 d ≡ getD d 0 0 ∷ getD d 1 0 ∷ getD d 2 0 ∷ getD d 3 0 ∷ getD d 4 0 ∷ getD d 5 0 ∷ getD d 6 0 ∷ getD d 7 0 ∷ getD d 8 0 ∷ getD d 9 0 ∷ []
 first-ten d h =
-    rw (take-suc d 9 0 (omega arith), take-suc d 8 0 (omega arith), take-suc d 7 0 (omega arith), take-suc d 6 0 (omega arith), take-suc d 5 0 (omega arith), take-suc d 4 0 (omega arith), take-suc d 3 0 (omega arith), take-suc d 2 0 (omega arith), take-suc d 1 0 (omega arith), take-suc d 0 0 (omega arith))
+    rw (
+      take-suc d 9 0 (omega arith),
+      take-suc d 8 0 (omega arith),
+      take-suc d 7 0 (omega arith),
+      take-suc d 6 0 (omega arith),
+      take-suc d 5 0 (omega arith),
+      take-suc d 4 0 (omega arith),
+      take-suc d 3 0 (omega arith),
+      take-suc d 2 0 (omega arith),
+      take-suc d 1 0 (omega arith),
+      take-suc d 0 0 (omega arith),
+    )
 
 pub shifted : (d : List ℕ) (x : ℕ) → length d ≡ 11 → x ≡ xor (getD d 8 0) (getD d 10 0)
     → x ∷ getD d 0 0 ∷ getD d 1 0 ∷ getD d 2 0 ∷ getD d 3 0 ∷ getD d 4 0 ∷ getD d 5 0 ∷ getD d 6 0 ∷ getD d 7 0 ∷ getD d 8 0 ∷ getD d 9 0 ∷ [] ≡ stepped d

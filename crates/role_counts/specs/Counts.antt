@@ -21,7 +21,7 @@ use Rattle.tables.specs.Places.{tmccOf, ac1Of, ac2Of, isSp, isCp}
 use Rattle.frame.specs.declared.AcKind.the-variants.{Ac1, Ac2}
 use Rattle.frame.specs.declared.CarrierRole.{CarrierRole}
 use Rattle.frame.specs.declared.CarrierRole.the-variants.{Data, Sp, Cp, Tmcc, Ac, EdgeCp}
-use Rattle.frame.specs.Roles.{roleByte, placeRole, segmentRoles}
+use Rattle.frame.specs.Roles.{roleByte, firstClaim, placeRole, segmentRoles}
 use Rattle.role_counts.specs.declared.KindCounts.{KindCounts}
 
 -- how many carriers of a segment have a role
@@ -74,21 +74,20 @@ marksOf k = k .«data» * mark Data + (k .sp * mark Sp + (k .cp * mark Cp + (k .
 
 -- a place's role, with the row's lists looked up once for all places
 abbrev roleIn : SegmentKind → ℕ → List ℕ → List ℕ → List ℕ → ℕ → CarrierRole
-roleIn kind phase tmcc ac1 ac2 p =
-    cond (isSp kind phase p) Sp (cond (isCp kind p) Cp (cond (memb p tmcc) Tmcc (cond (memb p ac1) (Ac Ac1) (cond (memb p ac2) (Ac Ac2) Data))))
+roleIn kind phase tmcc ac1 ac2 p = firstClaim (isSp kind phase p) (isCp kind p) (memb p tmcc) (memb p ac1) (memb p ac2)
 
-abbrev rowTest : Mode → SegmentKind → ℕ → ℕ → Bool
-rowTest mode kind row phase =
+abbrev countsTest : Mode → SegmentKind → ℕ → ℕ → Bool
+countsTest mode kind row phase =
     eqb (marks (roleIn kind phase (tmccOf mode kind row) (ac1Of mode kind row) (ac2Of mode kind row)) (carriersPerSegment mode))
     (marksOf (kindCounts mode kind))
 
-coherent-counted : (mode : Mode) → allBelow (λ row. allBelow (rowTest mode Coherent row) 4) 13 ≡ true
+coherent-counted : (mode : Mode) → allBelow (λ row. allBelow (countsTest mode Coherent row) 4) 13 ≡ true
 coherent-counted M1 = refl
 coherent-counted M2 = refl
 coherent-counted M3 = refl
 
--- what a place of a differential segment is does not hang on the phase
-differential-counted : (mode : Mode) → allBelow (λ row. rowTest mode Differential row 0) 13 ≡ true
+-- what a place of a differential segment is does not depend on the phase
+differential-counted : (mode : Mode) → allBelow (λ row. countsTest mode Differential row 0) 13 ≡ true
 differential-counted M1 = refl
 differential-counted M2 = refl
 differential-counted M3 = refl
@@ -127,7 +126,9 @@ abbrev isRole : CarrierRole → CarrierRole → ℕ
 isRole r q = cond (eqb (roleByte r) (roleByte q)) 1 0
 
 packed-more : (r : CarrierRole) (m d s c t a b e : ℕ) → m ≡ packed d s c t a b e
-    → mark r + m ≡ packed (d + isRole r Data) (s + isRole r Sp) (c + isRole r Cp) (t + isRole r Tmcc) (a + isRole r (Ac Ac1)) (b + isRole r (Ac Ac2)) (e + isRole r EdgeCp)
+    → mark r + m
+    ≡ packed (d + isRole r Data) (s + isRole r Sp) (c + isRole r Cp) (t + isRole r Tmcc)
+    (a + isRole r (Ac Ac1)) (b + isRole r (Ac Ac2)) (e + isRole r EdgeCp)
 packed-more Data m d s c t a b e h = omega arith
 packed-more Sp m d s c t a b e h = omega arith
 packed-more Cp m d s c t a b e h = omega arith
@@ -150,7 +151,9 @@ module _ (f : ℕ → CarrierRole) where
   many-few r n h = omega (arith, select-few (λ b. eqb b (roleByte r)) (rolesUp n), length-upTo (λ p. roleByte (f p)) n)
 
   -- the marks are the counts
-  marks-packed : (n : ℕ) → marks f n ≡ packed (manyOf Data n) (manyOf Sp n) (manyOf Cp n) (manyOf Tmcc n) (manyOf (Ac Ac1) n) (manyOf (Ac Ac2) n) (manyOf EdgeCp n)
+  marks-packed : (n : ℕ)
+      → marks f n
+      ≡ packed (manyOf Data n) (manyOf Sp n) (manyOf Cp n) (manyOf Tmcc n) (manyOf (Ac Ac1) n) (manyOf (Ac Ac2) n) (manyOf EdgeCp n)
   marks-packed zero = refl
   marks-packed (suc n) =
       rw (many-more Data n, many-more Sp n, many-more Cp n, many-more Tmcc n, many-more (Ac Ac1) n, many-more (Ac Ac2) n, many-more EdgeCp n)
@@ -171,11 +174,21 @@ module _ (d s c t a b e : ℕ) (k : KindCounts) (l : Few k) where
   unpacked : d < 1000 → s < 1000 → c < 1000 → t < 1000 → a < 1000 → b < 1000 → packed d s c t a b e ≡ marksOf k
       → (d ≡ k .«data») × (s ≡ k .sp) × (c ≡ k .cp) × (t ≡ k .tmcc) × (a ≡ k .ac1) × (b ≡ k .ac2)
   unpacked hd hs hc ht ha hb w =
-      let wd = digit d (k .«data») (s + 1000 * (c + 1000 * (t + 1000 * (a + 1000 * (b + 1000 * e))))) (k .sp + 1000 * (k .cp + 1000 * (k .tmcc + 1000 * (k .ac1 + 1000 * k .ac2)))) hd (omega arith) (omega arith) in
-      let ws = digit s (k .sp) (c + 1000 * (t + 1000 * (a + 1000 * (b + 1000 * e)))) (k .cp + 1000 * (k .tmcc + 1000 * (k .ac1 + 1000 * k .ac2))) hs (omega arith) (wd .1) in
-      let wc = digit c (k .cp) (t + 1000 * (a + 1000 * (b + 1000 * e))) (k .tmcc + 1000 * (k .ac1 + 1000 * k .ac2)) hc (omega arith) (ws .1) in
-      let wt = digit t (k .tmcc) (a + 1000 * (b + 1000 * e)) (k .ac1 + 1000 * k .ac2) ht (omega arith) (wc .1) in
-      let wa = digit a (k .ac1) (b + 1000 * e) (k .ac2) ha (omega arith) (wt .1) in
+      -- what stands above each digit, of the counts and of the kind's
+      let ua = b + 1000 * e in
+      let ut = a + 1000 * ua in
+      let uc = t + 1000 * ut in
+      let us = c + 1000 * uc in
+      let ud = s + 1000 * us in
+      let vt = k .ac1 + 1000 * k .ac2 in
+      let vc = k .tmcc + 1000 * vt in
+      let vs = k .cp + 1000 * vc in
+      let vd = k .sp + 1000 * vs in
+      let wd = digit d (k .«data») ud vd hd (omega arith) (omega arith) in
+      let ws = digit s (k .sp) us vs hs (omega arith) (wd .1) in
+      let wc = digit c (k .cp) uc vc hc (omega arith) (ws .1) in
+      let wt = digit t (k .tmcc) ut vt ht (omega arith) (wc .1) in
+      let wa = digit a (k .ac1) ua (k .ac2) ha (omega arith) (wt .1) in
       let wb = digit b (k .ac2) e 0 hb (omega arith) (omega (arith, wa .1)) in
       (wd .0, ws .0, wc .0, wt .0, wa .0, wb .0)
 
@@ -186,14 +199,14 @@ told f n k h l e =
     (sym (marks-packed f n) ∙ e) in
     record { «data» = w .0; sp = w .1; cp = w .2; tmcc = w .3; ac1 = w .4; ac2 = w .5 }
 
-row-tested : (mode : Mode) (kind : SegmentKind) (row phase : ℕ) → row < 13 → phase < 4 → rowTest mode kind row phase ≡ true
-row-tested mode Coherent row phase r p =
-    allBelow-at (rowTest mode Coherent row) 4 (allBelow-at (λ row. allBelow (rowTest mode Coherent row) 4) 13 (coherent-counted mode) row r) phase p
-row-tested mode Differential row phase r p = allBelow-at (λ row. rowTest mode Differential row 0) 13 (differential-counted mode) row r
+counts-tested : (mode : Mode) (kind : SegmentKind) (row phase : ℕ) → row < 13 → phase < 4 → countsTest mode kind row phase ≡ true
+counts-tested mode Coherent row phase r p =
+    allBelow-at (countsTest mode Coherent row) 4 (allBelow-at (λ row. allBelow (countsTest mode Coherent row) 4) 13 (coherent-counted mode) row r) phase p
+counts-tested mode Differential row phase r p = allBelow-at (λ row. countsTest mode Differential row 0) 13 (differential-counted mode) row r
 
 pub segment-counted : (mode : Mode) (kind : SegmentKind) (row phase : ℕ) → row < 13 → phase < 4
     → Counted (segmentRoles mode phase (record { row = row; kind = kind })) (kindCounts mode kind)
 unfolding segmentRoles placeRole
 segment-counted mode kind row phase r p =
     told (roleIn kind phase (tmccOf mode kind row) (ac1Of mode kind row) (ac2Of mode kind row)) (carriersPerSegment mode) (kindCounts mode kind)
-    (omega (arith, sized mode .carriers-high)) (few mode kind) (eqb-true _ _ (row-tested mode kind row phase r p))
+    (omega (arith, sized mode .carriers-high)) (few mode kind) (eqb-true _ _ (counts-tested mode kind row phase r p))

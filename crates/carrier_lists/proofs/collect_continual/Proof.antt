@@ -1,7 +1,7 @@
 -- `carrier_lists::collect_continual` meets its contract: the groups are counted first, and then stored behind one another.
 -- Assumes nothing.
 use Rattle.frame.specs.Roles.{between}
-use Rattle.carrier_lists.proofs.Stored.{chosen-fewer, continual-count, refused-short, stored-whole}
+use Rattle.carrier_lists.proofs.Stored.{chosen-fewer, refused-short, has-all-room, stored-whole}
 use borrow.Author.Needs.{needs}
 use native.Mathlib.Omega.{arith}
 use Rattle.carrier_lists.proofs.collect_continual.Statement.{statement}
@@ -19,7 +19,7 @@ returns : tie.Need-returns
 returns c =
     let k = c .before in
     let s = k .before .before .before in
-    refused-short _ _ _ (continual-count (s .args .roles .now) _ (k .count .ensures)) (c .if1 .taken)
+    refused-short (s .args .roles .now) _ _ (k .count .ensures) (c .if1 .taken)
 
 store-continual-requires : tie.Need-store-continual-requires
 store-continual-requires c κs =
@@ -28,7 +28,7 @@ store-continual-requires c κs =
     record {
       some = s .pre .0;
       few = s .pre .1;
-      fits = rw (← continual-count (s .args .roles .now) _ (k .count .ensures)) (c .before .if1 .left);
+      fits = has-all-room (s .args .roles .now) (s .args .out .now) _ (k .count .ensures) (c .before .if1 .left);
     }
 
 same-length : tie.Need-same-length
@@ -40,7 +40,7 @@ returns-2 c =
     let i = p .before .before in
     let k = i .before in
     let s = k .before .before .before in
-    stored-whole _ _ _ (continual-count (s .args .roles .now) _ (k .count .ensures)) (i .if1 .left) _ (p .store-continual .ensures)
+    stored-whole (s .args .roles .now) _ _ (k .count .ensures) (i .if1 .left) _ (p .store-continual .ensures)
 
 pub collect-continual-spec : {M : Type 1} → statement M
 collect-continual-spec = tie.close (tie.spec count-requires add-n returns store-continual-requires same-length returns-2)

@@ -18,7 +18,10 @@ same-length : tie.Need-same-length
 same-length c = search needs
 
 returns-2 : tie.Need-returns-2
-returns-2 c = continual-answered _ _ _ _ _ (c .before .before .before .before .before .before .new .ensures) _ _ _ (c .before .before .before .before .before .if1 .left) (c .before .before .continual-carriers .ensures)
+returns-2 c =
+    let l = c .before .before in
+    let i = l .before .before .before in
+    continual-answered _ _ _ _ _ (i .before .new .ensures) _ _ _ (i .if1 .left) (l .continual-carriers .ensures)
 
 pub continual-list-spec : {M : Type 1} → statement M
 continual-list-spec =

@@ -24,10 +24,17 @@ data-carriers-per-segment-requires : tie.Need-data-carriers-per-segment-requires
 data-carriers-per-segment-requires c κs = search needs
 
 mul-if3 : tie.Need-mul-if3
-mul-if3 c = omega (arith, sized (c .before .before .before .before .new .result .layout .mode) .data-high, sized (c .before .before .before .before .new .result .layout .mode) .carriers-high)
+mul-if3 c =
+    let z = sized (c .before .before .before .before .new .result .layout .mode) in
+    omega (arith, z .data-high, z .carriers-high)
 
 returns-3 : tie.Need-returns-3
-returns-3 c = refused-length _ _ _ _ _ (c .before .before .before .before .before .new .ensures) (λ m. 13 * dataCarriersPerSegment m) _ _ _ (c .before .before .before .before .if1 .left) (c .before .before .before .if2 .left) (λ e. c .if3 .taken (e ∙ ap (λ (n : ℕ). 13 * n) (sym (c .before .data-carriers-per-segment .ensures))))
+returns-3 c =
+    let k = c .before in
+    let h = k .before .before in
+    let i = h .before in
+    refused-length _ _ _ _ _ (i .before .new .ensures) (λ m. 13 * dataCarriersPerSegment m) _ _ _ (i .if1 .left) (h .if2 .left)
+    (λ e. c .if3 .taken (e ∙ ap (λ (n : ℕ). 13 * n) (sym (k .data-carriers-per-segment .ensures))))
 
 data-carriers-requires : tie.Need-data-carriers-requires
 data-carriers-requires c κs = search needs
@@ -36,7 +43,17 @@ same-length : tie.Need-same-length
 same-length c = search needs
 
 returns-4 : tie.Need-returns-4
-returns-4 c = answered _ _ _ _ _ (c .before .before .before .before .before .before .before .before .before .new .ensures) (λ m. 13 * dataCarriersPerSegment m) (λ m. dataList m (c .before .before .before .before .before .before .before .before .before .before .before .before .args .phase) (c .before .before .before .before .before .before .before .before .before .before .before .before .args .kinds .now)) _ _ (c .before .before .before .before .before .before .before .before .if1 .left) (c .before .before .before .before .before .before .before .if2 .left) _ (c .before .before .before .before .if3 .left ∙ ap (λ (n : ℕ). 13 * n) (c .before .before .before .before .before .data-carriers-per-segment .ensures)) (c .before .before .data-carriers .ensures ∙ ap (dataList (c .before .before .before .before .before .before .before .before .before .new .result .layout .mode) (c .before .before .before .before .before .before .before .before .before .before .before .before .args .phase)) (c .before .before .before .before .before .before .before .before .before .new .ensures .same (c .before .before .before .before .before .before .before .before .if1 .left)))
+returns-4 c =
+    let d = c .before .before in
+    let o = d .before .before in
+    let k = o .before in
+    let h = k .before .before in
+    let i = h .before in
+    let n = i .before in
+    let args = n .before .before .before .args in
+    answered _ _ _ _ _ (n .new .ensures) (λ m. 13 * dataCarriersPerSegment m) (λ m. dataList m (args .phase) (args .kinds .now)) _ _
+    (i .if1 .left) (h .if2 .left) _ (o .if3 .left ∙ ap (λ (n : ℕ). 13 * n) (k .data-carriers-per-segment .ensures))
+    (d .data-carriers .ensures ∙ ap (dataList (n .new .result .layout .mode) (args .phase)) (n .new .ensures .same (i .if1 .left)))
 
 pub data-list-spec : {M : Type 1} → statement M
 data-list-spec =

@@ -12,7 +12,8 @@ use Rattle.frame.proofs.mark.Statement.{statement}
 use Rattle.frame.proofs.mark.Tie as tie
 
 abbrev Inv-loop : tie.InvT-loop
-Inv-loop role out₀ places n i₀ out i = (i ≤ n) × (length out ≡ length out₀) × (markedAt (take n places) role out₀ ≡ markedAt (drop i (take n places)) role out)
+Inv-loop role out₀ places n i₀ out i =
+    (i ≤ n) × (length out ≡ length out₀) × (markedAt (take n places) role out₀ ≡ markedAt (drop i (take n places)) role out)
 
 abbrev μ-loop : tie.MeasureT-loop
 μ-loop role out₀ places n i₀ out i = n - i
@@ -39,14 +40,25 @@ loop-less : tie.Need-loop-less Inv-loop μ-loop
 loop-less c = omega arith
 
 loop-again : tie.Need-loop-again Inv-loop μ-loop
-loop-again c = let l : length (c .before .before .before .args .row .places) ≡ 20 = search needs in (omega arith, simp length-set (c .before .loop .inv .1), c .before .loop .inv .2 ∙ mark-one _ _ _ _ _ (omega (arith, c .before .before .before .pre .count)) (c .loop-test .taken))
+loop-again c =
+    let l = c .before .loop in
+    let s = c .before .before .before in
+    let all : length (s .args .row .places) ≡ 20 = search needs in
+    (omega arith, simp length-set (l .inv .1), l .inv .2 ∙ mark-one _ _ _ _ _ (omega (arith, s .pre .count)) (c .loop-test .taken))
 
 same-length : tie.Need-same-length Inv-loop μ-loop
 same-length c = c .before .loop .inv .1
 
 returns : tie.Need-returns Inv-loop μ-loop
 unfolding markedAt
-returns c = let l : length (c .before .before .before .args .row .places) ≡ 20 = search needs in let e : length (take (c .before .before .before .args .row .count) (c .before .before .before .args .row .places)) ≤ c .before .loop .i = rw (length-take-le (c .before .before .before .args .row .count) (c .before .before .before .args .row .places) (omega (arith, c .before .before .before .pre .count))) (omega arith) in sym (c .before .loop .inv .2 ∙ ap (λ z. markedAt z (c .before .before .before .args .role) (c .before .loop .out)) (drop-of-length-le _ e))
+returns c =
+    let l = c .before .loop in
+    let s = c .before .before .before in
+    let row = s .args .row in
+    let all : length (row .places) ≡ 20 = search needs in
+    let short : row .count ≤ length (row .places) = omega (arith, s .pre .count) in
+    let e : length (take (row .count) (row .places)) ≤ l .i = rw (length-take-le (row .count) (row .places) short) (omega arith) in
+    sym (l .inv .2 ∙ ap (λ z. markedAt z (s .args .role) (l .out)) (drop-of-length-le _ e))
 
 pub mark-spec : {M : Type 1} → statement M
 mark-spec =

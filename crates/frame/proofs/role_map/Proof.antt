@@ -23,7 +23,12 @@ total-carriers-requires : tie.Need-total-carriers-requires
 total-carriers-requires c κs = search needs
 
 returns-3 : tie.Need-returns-3
-returns-3 c = refused-length _ _ _ _ _ (c .before .before .before .before .before .new .ensures) _ _ _ _ (c .before .before .before .before .if1 .left) (c .before .before .before .if2 .left) (λ e. c .if3 .taken (e ∙ sym (c .before .total-carriers .ensures)))
+returns-3 c =
+    let k = c .before in
+    let h = k .before .before in
+    let i = h .before in
+    refused-length _ _ _ _ _ (i .before .new .ensures) _ _ _ _ (i .if1 .left) (h .if2 .left)
+    (λ e. c .if3 .taken (e ∙ sym (k .total-carriers .ensures)))
 
 roles-requires : tie.Need-roles-requires
 roles-requires c κs = search needs
@@ -32,7 +37,17 @@ same-length : tie.Need-same-length
 same-length c = search needs
 
 returns-4 : tie.Need-returns-4
-returns-4 c = answered _ _ _ _ _ (c .before .before .before .before .before .before .before .before .before .new .ensures) totalCarriers (λ m. bandRoles m (c .before .before .before .before .before .before .before .before .before .before .before .before .args .phase) (wide (c .before .before .before .before .before .before .before .before .before .before .before .before .args .kinds .now))) _ _ (c .before .before .before .before .before .before .before .before .if1 .left) (c .before .before .before .before .before .before .before .if2 .left) _ (c .before .before .before .before .if3 .left ∙ c .before .before .before .before .before .total-carriers .ensures) (c .before .before .roles .ensures ∙ ap (λ (k : List ℕ). bandRoles (c .before .before .before .before .before .before .before .before .before .new .result .layout .mode) (c .before .before .before .before .before .before .before .before .before .before .before .before .args .phase) (wide k)) (c .before .before .before .before .before .before .before .before .before .new .ensures .same (c .before .before .before .before .before .before .before .before .if1 .left)))
+returns-4 c =
+    let w = c .before .before in
+    let o = w .before .before in
+    let k = o .before in
+    let h = k .before .before in
+    let i = h .before in
+    let n = i .before in
+    let args = n .before .before .before .args in
+    let same = ap (λ (z : List ℕ). bandRoles (n .new .result .layout .mode) (args .phase) (wide z)) (n .new .ensures .same (i .if1 .left)) in
+    answered _ _ _ _ _ (n .new .ensures) totalCarriers (λ m. bandRoles m (args .phase) (wide (args .kinds .now))) _ _ (i .if1 .left) (h .if2 .left)
+    _ (o .if3 .left ∙ k .total-carriers .ensures) (w .roles .ensures ∙ same)
 
 pub role-map-spec : {M : Type 1} → statement M
 role-map-spec =

@@ -1,12 +1,6 @@
 -- `frame::segment_roles` meets its contract: the pilots first, then each row of the tables marked over them.
 -- Assumes nothing.
-use mathlib.Core.Path.{ap, _∙_}
-use lib.ListN.{length}
-use Rattle.lists.specs.Select.{length-upTo}
-use Rattle.tables.specs.Rule.{tmcc-below, ac1-below, ac2-below, tmcc-short, ac1-short, ac2-short}
-use Rattle.frame.specs.Roles.{ofdmSegment}
-use Rattle.frame.proofs.Marked.{length-marked}
-use Rattle.frame.proofs.Segment.{markable, all-marked}
+use Rattle.frame.proofs.Segment.{tmcc-markable, ac1-markable, ac2-markable, all-marked}
 use borrow.Author.Needs.{needs}
 use Rattle.frame.proofs.segment_roles.Statement.{statement}
 use Rattle.frame.proofs.segment_roles.Tie as tie
@@ -20,8 +14,13 @@ tmcc-positions-requires c κs = search needs
 byte-requires : tie.Need-byte-requires
 byte-requires c κs = search needs
 
+-- t, a and b are the states behind the look-up of a row: TMCC, AC1 and AC2; s is the start
 mark-requires : tie.Need-mark-requires
-mark-requires c κs = markable _ _ _ _ (c .before .before .tmcc-positions .ensures) (tmcc-short (c .before .before .before .before .before .before .before .before .args .mode) (c .before .before .before .before .before .before .before .before .args .kind) (c .before .before .before .before .before .before .before .before .args .seg .0) (c .before .before .before .before .before .before .before .before .pre .row-below)) (tmcc-below (c .before .before .before .before .before .before .before .before .args .mode) (c .before .before .before .before .before .before .before .before .args .kind) (c .before .before .before .before .before .before .before .before .args .seg .0) (c .before .before .before .before .before .before .before .before .pre .row-below)) (ap length (c .before .before .before .before .before .write-pilots .ensures) ∙ (length-upTo _ _ ∙ c .before .before .before .before .before .before .before .before .pre .room))
+mark-requires c κs =
+    let t = c .before .before in
+    let w = t .before .before .before in
+    let s = w .before .before .before in
+    tmcc-markable _ _ (s .args .kind) _ _ (s .pre) _ (w .write-pilots .ensures) _ (t .tmcc-positions .ensures)
 
 ac1-positions-requires : tie.Need-ac1-positions-requires
 ac1-positions-requires c κs = search needs
@@ -30,7 +29,15 @@ byte-requires-2 : tie.Need-byte-requires-2
 byte-requires-2 c κs = search needs
 
 mark-requires-2 : tie.Need-mark-requires-2
-mark-requires-2 c κs = markable _ _ _ _ (c .before .before .ac1-positions .ensures) (ac1-short (c .before .before .before .before .before .before .before .before .before .before .before .before .before .before .args .mode) (c .before .before .before .before .before .before .before .before .before .before .before .before .before .before .args .kind) (c .before .before .before .before .before .before .before .before .before .before .before .before .before .before .args .seg .0) (c .before .before .before .before .before .before .before .before .before .before .before .before .before .before .pre .row-below)) (ac1-below (c .before .before .before .before .before .before .before .before .before .before .before .before .before .before .args .mode) (c .before .before .before .before .before .before .before .before .before .before .before .before .before .before .args .kind) (c .before .before .before .before .before .before .before .before .before .before .before .before .before .before .args .seg .0) (c .before .before .before .before .before .before .before .before .before .before .before .before .before .before .pre .row-below)) (ap length (c .before .before .before .before .before .mark .ensures) ∙ (length-marked _ _ _ ∙ (ap length (c .before .before .before .before .before .before .before .before .before .before .before .write-pilots .ensures) ∙ (length-upTo _ _ ∙ c .before .before .before .before .before .before .before .before .before .before .before .before .before .before .pre .room))))
+mark-requires-2 c κs =
+    let a = c .before .before in
+    let m = a .before .before .before in
+    let k = m .before .before in
+    let t = k .before in
+    let w = t .before .before .before in
+    let s = w .before .before .before in
+    ac1-markable _ _ (s .args .kind) _ _ (s .pre) _ (w .write-pilots .ensures) _ (t .tmcc-positions .ensures) _ _ (k .byte .ensures) (m .mark .ensures)
+    _ (a .ac1-positions .ensures)
 
 ac2-positions-requires : tie.Need-ac2-positions-requires
 ac2-positions-requires c κs = search needs
@@ -39,13 +46,37 @@ byte-requires-3 : tie.Need-byte-requires-3
 byte-requires-3 c κs = search needs
 
 mark-requires-3 : tie.Need-mark-requires-3
-mark-requires-3 c κs = markable _ _ _ _ (c .before .before .ac2-positions .ensures) (ac2-short (c .before .before .before .before .before .before .before .before .before .before .before .before .before .before .before .before .before .before .before .before .args .mode) (c .before .before .before .before .before .before .before .before .before .before .before .before .before .before .before .before .before .before .before .before .args .kind) (c .before .before .before .before .before .before .before .before .before .before .before .before .before .before .before .before .before .before .before .before .args .seg .0) (c .before .before .before .before .before .before .before .before .before .before .before .before .before .before .before .before .before .before .before .before .pre .row-below)) (ac2-below (c .before .before .before .before .before .before .before .before .before .before .before .before .before .before .before .before .before .before .before .before .args .mode) (c .before .before .before .before .before .before .before .before .before .before .before .before .before .before .before .before .before .before .before .before .args .kind) (c .before .before .before .before .before .before .before .before .before .before .before .before .before .before .before .before .before .before .before .before .args .seg .0) (c .before .before .before .before .before .before .before .before .before .before .before .before .before .before .before .before .before .before .before .before .pre .row-below)) (ap length (c .before .before .before .before .before .mark2 .ensures) ∙ (length-marked _ _ _ ∙ (ap length (c .before .before .before .before .before .before .before .before .before .before .before .mark .ensures) ∙ (length-marked _ _ _ ∙ (ap length (c .before .before .before .before .before .before .before .before .before .before .before .before .before .before .before .before .before .write-pilots .ensures) ∙ (length-upTo _ _ ∙ c .before .before .before .before .before .before .before .before .before .before .before .before .before .before .before .before .before .before .before .before .pre .room))))))
+mark-requires-3 c κs =
+    let b = c .before .before in
+    let n = b .before .before .before in
+    let l = n .before .before in
+    let a = l .before in
+    let m = a .before .before .before in
+    let k = m .before .before in
+    let t = k .before in
+    let w = t .before .before .before in
+    let s = w .before .before .before in
+    ac2-markable _ _ (s .args .kind) _ _ (s .pre) _ (w .write-pilots .ensures) _ (t .tmcc-positions .ensures) _ _ (k .byte .ensures) (m .mark .ensures)
+    _ (a .ac1-positions .ensures) _ _ (l .byte2 .ensures) (n .mark2 .ensures) _ (b .ac2-positions .ensures)
 
 same-length : tie.Need-same-length
 same-length c = search needs
 
 returns : tie.Need-returns
-returns c = all-marked _ (ofdmSegment _ _) _ (c .before .before .before .before .before .before .before .before .before .before .before .before .before .before .before .before .before .before .before .before .before .before .before .pre .row-below) (c .before .before .before .before .before .before .before .before .before .before .before .before .before .before .before .before .before .before .before .before .before .before .before .pre .phase-below) (c .before .before .before .before .before .before .before .before .before .before .before .before .before .before .before .before .before .before .before .before .before .before .before .args .out .now) _ _ _ _ _ _ _ _ _ _ (record { room = c .before .before .before .before .before .before .before .before .before .before .before .before .before .before .before .before .before .before .before .before .before .before .before .pre .room; pilots-written = c .before .before .before .before .before .before .before .before .before .before .before .before .before .before .before .before .before .before .before .before .write-pilots .ensures; tmcc-row = c .before .before .before .before .before .before .before .before .before .before .before .before .before .before .before .before .before .tmcc-positions .ensures; tmcc-byte = c .before .before .before .before .before .before .before .before .before .before .before .before .before .before .before .before .byte .ensures; tmcc-marked = c .before .before .before .before .before .before .before .before .before .before .before .before .before .before .mark .ensures; ac1-row = c .before .before .before .before .before .before .before .before .before .before .before .ac1-positions .ensures; ac1-byte = c .before .before .before .before .before .before .before .before .before .before .byte2 .ensures; ac1-marked = c .before .before .before .before .before .before .before .before .mark2 .ensures; ac2-row = c .before .before .before .before .before .ac2-positions .ensures; ac2-byte = c .before .before .before .before .byte3 .ensures; ac2-marked = c .before .before .mark3 .ensures })
+returns c =
+    let o = c .before .before in
+    let j = o .before .before in
+    let b = j .before in
+    let n = b .before .before .before in
+    let l = n .before .before in
+    let a = l .before in
+    let m = a .before .before .before in
+    let k = m .before .before in
+    let t = k .before in
+    let w = t .before .before .before in
+    let s = w .before .before .before in
+    all-marked _ _ (s .args .kind) _ _ (s .pre) _ (w .write-pilots .ensures) _ (t .tmcc-positions .ensures) _ _ (k .byte .ensures) (m .mark .ensures)
+    _ (a .ac1-positions .ensures) _ _ (l .byte2 .ensures) (n .mark2 .ensures) _ (b .ac2-positions .ensures) _ _ (j .byte3 .ensures) (o .mark3 .ensures)
 
 pub segment-roles-spec : {M : Type 1} → statement M
 segment-roles-spec =

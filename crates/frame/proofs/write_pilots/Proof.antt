@@ -34,13 +34,18 @@ loop-less : tie.Need-loop-less Inv-loop μ-loop
 loop-less c = omega arith
 
 loop-again : tie.Need-loop-again Inv-loop μ-loop
-loop-again c = (omega arith, simp length-set (c .before .before .loop .inv .1), fill-again _ _ _ _ _ (c .before .before .loop .inv .2) (c .pilot-byte .ensures) (omega arith))
+loop-again c =
+    let inv = c .before .before .loop .inv in
+    (omega arith, simp length-set (inv .1), fill-again _ _ _ _ _ (inv .2) (c .pilot-byte .ensures) (omega arith))
 
 same-length : tie.Need-same-length Inv-loop μ-loop
 same-length c = c .before .loop .inv .1
 
 returns : tie.Need-returns Inv-loop μ-loop
-returns c = fill-done _ (c .before .before .before .args .out .now) _ (length (c .before .before .before .args .out .now)) (c .before .loop .p) (c .before .loop .inv .2) (omega arith) (omega arith)
+returns c =
+    let l = c .before .loop in
+    let old = c .before .before .before .args .out .now in
+    fill-done _ old _ (length old) (l .p) (l .inv .2) (omega arith) (omega arith)
 
 pub write-pilots-spec : {M : Type 1} → statement M
 write-pilots-spec =

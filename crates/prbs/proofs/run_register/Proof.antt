@@ -14,7 +14,9 @@ use Rattle.prbs.proofs.run_register.Statement.{statement}
 use Rattle.prbs.proofs.run_register.Tie as tie
 
 abbrev Inv-loop : tie.InvT-loop
-Inv-loop out₀ register₀ i₀ out register i = (i ≤ length out₀) × (length out ≡ length out₀) × (register .bits ≡ after i (register₀ .bits)) × (out ≡ upTo (signAfter (register₀ .bits)) i ++ drop i out₀)
+Inv-loop out₀ register₀ i₀ out register i =
+    (i ≤ length out₀) × (length out ≡ length out₀) × (register .bits ≡ after i (register₀ .bits))
+    × (out ≡ upTo (signAfter (register₀ .bits)) i ++ drop i out₀)
 
 abbrev μ-loop : tie.MeasureT-loop
 μ-loop out₀ register₀ i₀ out register i = length out₀ - i
@@ -36,13 +38,23 @@ loop-less : tie.Need-loop-less Inv-loop μ-loop
 loop-less c = omega arith
 
 loop-again : tie.Need-loop-again Inv-loop μ-loop
-loop-again c = (omega arith, simp length-set (c .before .before .before .loop .inv .1), after-more _ _ _ _ (c .before .before .before .loop .inv .2) (c .before .step .ensures .register), fill-again _ _ _ _ _ (c .before .before .before .loop .inv .3) (c .before .step .ensures .sign ∙ ap (λ (l : List ℕ). getD l 10 0) (c .before .before .before .loop .inv .2)) (omega arith))
+loop-again c =
+    let inv = c .before .before .before .loop .inv in
+    let s = c .before .step .ensures in (
+      omega arith,
+      simp length-set (inv .1),
+      after-more _ _ _ _ (inv .2) (s .register),
+      fill-again _ _ _ _ _ (inv .3) (s .sign ∙ ap (λ (l : List ℕ). getD l 10 0) (inv .2)) (omega arith),
+    )
 
 same-length : tie.Need-same-length Inv-loop μ-loop
 same-length c = c .before .loop .inv .1
 
 returns : tie.Need-returns Inv-loop μ-loop
-returns c = fill-done _ (c .before .before .before .args .out .now) _ (length (c .before .before .before .args .out .now)) (c .before .loop .i) (c .before .loop .inv .3) (omega arith) (omega arith)
+returns c =
+    let l = c .before .loop in
+    let old = c .before .before .before .args .out .now in
+    fill-done _ old _ (length old) (l .i) (l .inv .3) (omega arith) (omega arith)
 
 pub run-register-spec : {M : Type 1} → statement M
 run-register-spec =

@@ -19,7 +19,10 @@ same-length c = search needs
 
 returns : tie.Need-returns
 unfolding segmentSigns
-returns c = rw (← c .before .before .before .before .before .prbs-segment-init .ensures, ← c .before .before .before .before .init .ensures, ← c .before .before .before .before .before .before .before .pre .1) (c .before .before .run-register .ensures)
+returns c =
+    let r = c .before .before in
+    let i = r .before .before in
+    rw (← i .before .prbs-segment-init .ensures, ← i .init .ensures, ← i .before .before .before .pre .1) (r .run-register .ensures)
 
 pub segment-w-spec : {M : Type 1} → statement M
 segment-w-spec =

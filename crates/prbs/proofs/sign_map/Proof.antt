@@ -22,7 +22,11 @@ total-carriers-requires : tie.Need-total-carriers-requires
 total-carriers-requires c κs = search needs
 
 returns-2 : tie.Need-returns-2
-returns-2 c = sign-bad-length _ _ _ (sym (c .before .before .before .before .before .from-number .ensures) ∙ c .before .before .before .m .given .1) (λ e. c .if1 .taken (e ∙ sym (c .before .total-carriers .ensures)))
+returns-2 c =
+    let k = c .before in
+    let known = k .before .before in
+    sign-bad-length _ _ _ (sym (known .before .before .from-number .ensures) ∙ known .m .given .1)
+    (λ e. c .if1 .taken (e ∙ sym (k .total-carriers .ensures)))
 
 band-w-requires : tie.Need-band-w-requires
 band-w-requires c κs = search needs
@@ -31,7 +35,13 @@ same-length : tie.Need-same-length
 same-length c = search needs
 
 returns-3 : tie.Need-returns-3
-returns-3 c = sign-written _ _ _ _ (sym (c .before .before .before .before .before .before .before .before .before .from-number .ensures) ∙ c .before .before .before .before .before .before .before .m .given .1) (c .before .before .before .before .if1 .left ∙ c .before .before .before .before .before .total-carriers .ensures) (c .before .before .band-w .ensures)
+returns-3 c =
+    let w = c .before .before in
+    let i = w .before .before in
+    let k = i .before in
+    let known = k .before .before in
+    sign-written _ _ _ _ (sym (known .before .before .from-number .ensures) ∙ known .m .given .1) (i .if1 .left ∙ k .total-carriers .ensures)
+    (w .band-w .ensures)
 
 pub sign-map-spec : {M : Type 1} → statement M
 sign-map-spec =

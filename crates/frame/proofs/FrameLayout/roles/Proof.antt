@@ -102,7 +102,8 @@ loop-again c =
     let f = k .before in
     let t = f .before .before in
     let args = t .before .before .before .before .args in
-    let e = of-segment _ _ (args .self .kinds) (t .before .loop .place) _ _ _ (f .before .segment-at-position .ensures .0) (k .kind .ensures) (s .segment-roles .ensures) in
+    let seg = f .before .segment-at-position .ensures .0 in
+    let e = of-segment _ _ (args .self .kinds) (t .before .loop .place) _ _ _ seg (k .kind .ensures) (s .segment-roles .ensures) in
     again _ _ _ _ _ _ _ (t .before .loop .inv) _ (f .first-carrier .ensures) (t .loop-test .taken) _ _ (c .before .out .given .1) e refl
 
 first-carrier-requires-2 : tie.Need-first-carrier-requires-2 Inv-loop μ-loop

@@ -50,7 +50,10 @@ array-read-t7-2 : tie.Need-array-read-t7-2
 array-read-t7-2 c = search needs
 
 returns : tie.Need-returns
-returns c = let h : length (c .before .before .args .self .bits) ≡ 11 = search needs in record { sign = refl; register = shifted (c .before .before .args .self .bits) _ h (c .xor .ensures) }
+returns c =
+    let d = c .before .before .args .self .bits in
+    let h : length d ≡ 11 = search needs in
+    record { sign = refl; register = shifted d _ h (c .xor .ensures) }
 
 pub step-spec : {M : Type 1} → statement M
 step-spec =
