@@ -8,7 +8,7 @@ use lib.ListN.{length, getD}
 use lib.Ieee.{Float}
 use Rattle.params.specs.declared.Mode.{Mode}
 use Rattle.params.specs.declared.SegmentKind.the-variants.{Coherent, Differential}
-use Rattle.params.specs.Params.{carriersPerSegment, totalCarriers}
+use Rattle.params.specs.Params.{carriersPerSegment}
 use Rattle.params.specs.Laws.{sized}
 use Rattle.tables.specs.declared.Positions.{Positions}
 use Rattle.tables.specs.Places.{Listed, tmccOf, ac1Of, ac2Of}

@@ -21,7 +21,7 @@ use Rattle.shift.specs.declared.ShiftAnswer.{ShiftAnswer}
 use Rattle.shift.specs.declared.ShiftAnswer.the-variants.{Found, Refused}
 use Rattle.shift.specs.Shift.{pattern, scoreOf, winner, bestShift, shiftCode, shiftLeaves, shiftAnswer, shiftNumber, Shifted}
 use Rattle.shift.specs.Facts.{shift-number}
-use Rattle.shift.specs.Inner.{Put, Bounded, BestPlace}
+use Rattle.shift.specs.Inner.{Put, Bounded, BestFound}
 use Rattle.shift.proofs.Segments.{pattern-few}
 
 -- ---- the pattern in front of the buffer
@@ -64,7 +64,7 @@ written n xs old now code r told z taken = left-written n xs old now r taken (ta
 
 -- ---- the search's winner is the definition's
 best-is : (m : Mode) (xs now : List Float) (bins : List ℕ) (n bound : ℕ) (best : Best) → n ≡ fftSize m → now ≡ binRatios n xs → bins ≡ pattern m
-    → BestPlace bins now bound best
+    → BestFound bins now bound best
     → winner (minus (best .at) bound) (best .sum) ≡ bestShift (fftSize m) (pattern m) bound (binRatios (fftSize m) xs)
 best-is m xs now bins n bound best size left are found = found .wins ∙ rw (left, ratios-length n xs, size, are)
 
@@ -85,7 +85,7 @@ module _ (number read : ModeNumber) (told : read ≡ number) (xs old : List Floa
     refused k e h = shifted _ _ (rw (← told, known, e, ne-eqb k 0 h)) (rw (← told, known, e, ne-eqb k 0 h))
 
     pub answered : (bins : List ℕ) (now : List Float) (n count : ℕ) (best : Best) (z : ℤ) → shiftCode (Known m) (length xs) (length old) bound ≡ 0
-        → n ≡ fftSize m → now ≡ binRatios n xs → bins ≡ pattern m → count ≡ length bins → BestPlace bins now bound best → z ≡ minus (best .at) bound
+        → n ≡ fftSize m → now ≡ binRatios n xs → bins ≡ pattern m → count ≡ length bins → BestFound bins now bound best → z ≡ minus (best .at) bound
         → Shifted number xs bound old (Found (record { shift = z; score = div binary32 (best .sum) (ofInt binary32 (pos count)) })) now
     unfolding shiftAnswer shiftLeaves scoreOf
     answered bins now n count best z code size left are long found from =

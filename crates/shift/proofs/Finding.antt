@@ -1,4 +1,4 @@
--- What `search` keeps: the best place so far is the winner among the shifts passed.
+-- What `search` keeps: the best so far is the winner among the shifts passed.
 -- Assumes nothing.
 use Prim.Native.Nat.{ℕ, _+_, _*_, _-_, _≤_, _<_}
 use mathlib.Core.Bool.{Bool, true, false, cond}
@@ -13,10 +13,10 @@ use Rattle.ieee.specs.Constants.{lowest}
 use Rattle.lists.specs.Lists.{range}
 use Rattle.shift.specs.declared.Best.{Best}
 use Rattle.shift.specs.Shift.{sumAt, Winner, winner, searched, shifts, bestShift}
-use Rattle.shift.specs.Inner.{sumUp, Bounded, BestPlace}
+use Rattle.shift.specs.Inner.{sumUp, Bounded, BestFound}
 use Rattle.shift.specs.Searches.{searched-more}
 use Rattle.ieee.specs.Differences.{minus-self}
-use Rattle.shift.proofs.Places.{sum-moved}
+use Rattle.shift.proofs.Counted.{sum-moved}
 
 module _ (bins : List ℕ) (ratios : List Float) (bound : ℕ) where
   -- the winner of the j lowest shifts
@@ -32,7 +32,7 @@ module _ (bins : List ℕ) (ratios : List Float) (bound : ℕ) where
   unfolding searched
   search-begin = record { count = omega arith; inside = omega arith; wins = ap (λ (z : ℤ). winner z lowest) (minus-self bound) }
 
-  -- s is the sum at place j
+  -- s is the sum of shift number j
   module _ (j : ℕ) (best : Best) (w : Passed j best) (b : Bounded (length ratios) bound) (h : j ≤ 2 * bound) (s : Float)
       (e : s ≡ sumUp bins ratios (j + (length ratios - bound))) where
     next : (greater : Bool) → lt (best .sum) s ≡ greater
@@ -47,7 +47,7 @@ module _ (bins : List ℕ) (ratios : List Float) (bound : ℕ) where
     pub search-keep : lt (best .sum) s ≡ false → Passed (j + 1) best
     search-keep g = record { count = omega arith; inside = w .inside; wins = sym (next false g) }
 
-  pub search-done : (j : ℕ) (best : Best) → 2 * bound < j → Passed j best → BestPlace bins ratios bound best
+  pub search-done : (j : ℕ) (best : Best) → 2 * bound < j → Passed j best → BestFound bins ratios bound best
   unfolding shifts bestShift
   search-done j best h w =
       let all : j ≡ 2 * bound + 1 = omega (arith, w .count) in

@@ -2,7 +2,7 @@ pub mod Adding
 pub mod Storing
 pub mod AcRow
 pub mod Segments
-pub mod Places
+pub mod Counted
 pub mod Finding
 pub mod Codes
 pub mod Answers

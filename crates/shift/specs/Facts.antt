@@ -4,7 +4,8 @@
 -- or a NaN. Where every sum is a NaN the answer stays where the search starts, at shift 0 and `f32::MIN`.
 -- This is of sums. Scores are sums divided, and may tie where sums do not: in mode 1 the sums 14 + 2^-20 and 14 + 2^-19 both give the score
 -- 0x3f04bda2, and the greater sum wins.
--- The pattern has 27, 53 and 105 bins in modes 1, 2 and 3. An answer has the number that its refusals decide.
+-- The pattern has 27, 53 and 105 bins in modes 1, 2 and 3. An answer has the number that its refusals decide, and an accepted
+-- call tells the winner and leaves the ratios.
 -- Assumes nothing.
 use Prim.Native.Nat.{ℕ, _+_, _*_, _<_}
 use mathlib.Core.Bool.{Bool, true, false, cond}
@@ -23,10 +24,11 @@ use Rattle.params.specs.declared.Mode.{Mode}
 use Rattle.params.specs.declared.Mode.the-variants.{M1, M2, M3}
 use Rattle.params.specs.declared.ModeNumber.{ModeNumber}
 use Rattle.params.specs.declared.ModeNumber.the-variants.{Known, Unknown}
+use Rattle.params.specs.Params.{fftSize}
 use Rattle.ratio.specs.Ratio.{binRatios}
 use Rattle.shift.specs.declared.FoundShift.{FoundShift}
 use Rattle.shift.specs.declared.ShiftAnswer.the-variants.{Found, Refused}
-use Rattle.shift.specs.Shift.{winner, sumAt, bestShift, patternCarriers, pattern, shiftCode, shiftAnswer, shiftNumber}
+use Rattle.shift.specs.Shift.{winner, sumAt, bestShift, foundOf, patternCarriers, pattern, shiftCode, shiftLeaves, shiftAnswer, shiftNumber}
 use Rattle.shift.specs.Searches.{found-kind, found-most, found-first, found-nan}
 use Rattle.shift.specs.Moved.{Laid, ratios-no-minus, sum-above}
 
@@ -81,6 +83,17 @@ shift-number (Known m) xs bound room = by (shiftCode (Known m) (length xs) room 
         pick : (b : Bool) → (T b → code ≡ 0) → shiftNumber (cond b (Found found) (Refused code)) ≡ code
         pick true z = sym (z tt)
         pick false z = refl
+
+-- what an accepted call answers, and what it leaves
+module _ (m : Mode) (xs old : List Float) (bound : ℕ) (accepted : shiftCode (Known m) (length xs) (length old) bound ≡ 0) where
+  pub accepted-answer : shiftAnswer (Known m) xs bound (length old)
+      ≡ Found (foundOf (pattern m) (bestShift (fftSize m) (pattern m) bound (binRatios (fftSize m) xs)))
+  unfolding shiftAnswer
+  accepted-answer = rw accepted
+
+  pub accepted-leaves : shiftLeaves (Known m) xs bound old ≡ binRatios (fftSize m) xs
+  unfolding shiftLeaves
+  accepted-leaves = rw accepted
 
 -- ---- the pattern
 abbrev pub patternBins : Mode → ℕ

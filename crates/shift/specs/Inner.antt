@@ -30,7 +30,7 @@ pub record Put (xs out : List ℕ) (at r : ℕ) (out' : List ℕ) : Type 0 where
   pub next : r ≡ at + length xs
   pub stored : out' ≡ sets out at xs
 
--- ---- a place's sum: every bin moved up, modulo n
+-- ---- a shift's sum: every bin moved up, modulo n
 unfoldable pub sumUp : List ℕ → List Float → ℕ → Float
 sumUp bins ratios up = total binary32 minusZero (map (λ b. getD ratios ((b + up) % length ratios) nan) bins)
 
@@ -46,6 +46,6 @@ pub record Bounded (n bound : ℕ) : Type 0 where
   pub within : bound ≤ n
 
 -- r is the winner, its shift counted from -bound
-pub record BestPlace (bins : List ℕ) (ratios : List Float) (bound : ℕ) (r : Best) : Type 0 where
+pub record BestFound (bins : List ℕ) (ratios : List Float) (bound : ℕ) (r : Best) : Type 0 where
   pub inside : r .at ≤ 2 * bound
   pub wins : winner (minus (r .at) bound) (r .sum) ≡ bestShift (length ratios) bins bound ratios

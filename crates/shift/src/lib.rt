@@ -6,7 +6,7 @@ ghost use Prim.Native.Nat.{_+_, _%_, _≤_, _<_};
 ghost use lib.ListN.{length};
 ghost use Rattle.params.specs.Params.{modeFrom};
 ghost use Rattle.shift.specs.Shift.{pattern, Shifted};
-ghost use Rattle.shift.specs.Inner.{segmentBins, Room, Put, sumUp, Movable, Bounded, BestPlace};
+ghost use Rattle.shift.specs.Inner.{segmentBins, Room, Put, sumUp, Movable, Bounded, BestFound};
 use ofdm::BandCarrier;
 use ofdm::FftBin;
 use ofdm::Segment;
@@ -26,7 +26,7 @@ pub enum ShiftAnswer {
     Refused(u8),
 }
 
-// A place of the search, counted from the lowest shift, and the sum found there.
+// A shift, as its number from the lowest one, and its sum.
 pub struct Best {
     pub at: usize,
     pub sum: f32,
@@ -80,8 +80,7 @@ fn moved_up(bin: FftBin, up: usize, n: usize) -> FftBin
     requires { ⌜ Movable n up × (bin .0 < 4294967296) ⌝ }
     ensures { λ r. ⌜ r .0 ≡ (bin .0 + up) % n ⌝ }
 {
-    let turn = n;
-    FftBin((bin.0 + up) % turn)
+    FftBin((bin.0 + up) % n)
 }
 
 // The sum of the ratios at the pattern's bins, each moved up by `up` modulo the ratios' length.
@@ -102,10 +101,10 @@ fn pattern_sum(bins: &[u32], ratios: &[f32], up: usize) -> f32
     sum
 }
 
-// The best place among the shifts from -bound to bound: only a greater sum replaces.
+// The best of the shifts from -bound to bound: only a greater sum replaces.
 fn search(bins: &[u32], ratios: &[f32], bound: usize) -> Best
     requires { ⌜ Bounded (length (now ratios)) bound ⌝ }
-    ensures { λ r. ⌜ BestPlace (now (bins .entry)) (now (ratios .entry)) bound r ⌝ }
+    ensures { λ r. ⌜ BestFound (now (bins .entry)) (now (ratios .entry)) bound r ⌝ }
 {
     let n = ratios.len();
     let mut best = Best {

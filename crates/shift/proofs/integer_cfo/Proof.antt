@@ -1,4 +1,4 @@
--- `shift::integer_cfo` meets its contract: each refusal is the case that the tests decide, and the search's best place is the winner.
+-- `shift::integer_cfo` meets its contract: each refusal is the case that the tests decide, and the search's best is the winner.
 -- Assumes nothing.
 use lib.IntN.{pos}
 use Rattle.ieee.specs.Differences.{held-exactly, difference-fits, difference-is}

@@ -1,4 +1,4 @@
--- `shift::search` meets its contract: the best place so far is the winner among the shifts passed.
+-- `shift::search` meets its contract: the best so far is the winner among the shifts passed.
 -- Assumes nothing.
 use Prim.Native.Nat.{_+_, _*_, _-_}
 use mathlib.Core.Logic.{⊎-elim}
