@@ -20,17 +20,17 @@ use Rattle.guess.specs.Guess.{lagsIn, lagProduct, lagEnergy, realPrefixe
 use Rattle.guess.specs.Inner.{reals, imaginaries, energies, entry, Written, Holds}
 
 -- ---- a prefix sum: the first, and each from the one before it
-first : (f : Format) (s : Float) (xs : List Float) → getD (prefixes f s xs) 0 nan ≡ s
+first-prefix : (f : Format) (s : Float) (xs : List Float) → getD (prefixes f s xs) 0 nan ≡ s
 unfolding prefixes
-first f s [] = refl
-first f s (x ∷ xs) = refl
+first-prefix f s [] = refl
+first-prefix f s (x ∷ xs) = refl
 
-next : (f : Format) (s : Float) (xs : List Float) (i : ℕ) → i < length xs
+next-prefix : (f : Format) (s : Float) (xs : List Float) (i : ℕ) → i < length xs
     → getD (prefixes f s xs) (suc i) nan ≡ add f (getD (prefixes f s xs) i nan) (getD xs i nan)
 unfolding prefixes
-next f s [] i h = absurd (not-suc-le-zero h)
-next f s (x ∷ xs) zero h = first f (add f s x) xs
-next f s (x ∷ xs) (suc i) h = next f (add f s x) xs i (le-of-suc-le-suc h)
+next-prefix f s [] i h = absurd (not-suc-le-zero h)
+next-prefix f s (x ∷ xs) zero h = first-prefix f (add f s x) xs
+next-prefix f s (x ∷ xs) (suc i) h = next-prefix f (add f s x) xs i (le-of-suc-le-suc h)
 
 -- ps are the prefix sums of n values of g
 record SumsOf (g : ℕ → Float) (n : ℕ) (ps : List Float) : Type 0 where
@@ -41,10 +41,10 @@ sums-of : (g : ℕ → Float) (n : ℕ) → SumsOf g n (prefixes binary64 (plusZ
 sums-of g n =
     let z = plusZero binary64 in
     record {
-      none = first binary64 z (upTo g n);
+      none = first-prefix binary64 z (upTo g n);
       more = λ i h.
           let l : i < length (upTo g n) = rw (length-upTo g n) h in
-          rw (add-one, next binary64 z (upTo g n) i l, getD-upTo g n i nan h);
+          rw (add-one, next-prefix binary64 z (upTo g n) i l, getD-upTo g n i nan h);
     }
 
 real-sums : (n : ℕ) (xs : List Float) → SumsOf (λ i. lagProduct n xs i .re) (lagsIn n xs) (realPrefixes n xs)
@@ -64,48 +64,48 @@ abbrev pub put : List Float → ℕ → Float → Float → Float → List Float
 put sums i a b c = set (set (set sums (reals i) a) (imaginaries i) b) (energies i) c
 
 module _ (sums : List Float) (i : ℕ) (a b c : Float) where
-  abbrev one : List Float
-  one = set sums (reals i) a
+  abbrev real : List Float
+  real = set sums (reals i) a
 
-  abbrev two : List Float
-  two = set one (imaginaries i) b
+  abbrev both : List Float
+  both = set real (imaginaries i) b
 
   -- what stood before it is kept
   kept : (q : ℕ) → q < 3 * i → getD (put sums i a b c) q nan ≡ getD sums q nan
   kept q h =
-      getD-set-other two (energies i) q c nan (λ e. omega arith)
-      ∙ (getD-set-other one (imaginaries i) q b nan (λ e. omega arith) ∙ getD-set-other sums (reals i) q a nan (λ e. omega arith))
+      getD-set-other both (energies i) q c nan (λ e. omega arith)
+      ∙ (getD-set-other real (imaginaries i) q b nan (λ e. omega arith) ∙ getD-set-other sums (reals i) q a nan (λ e. omega arith))
 
   put-re : 3 * i + 2 < length sums → entry reals (put sums i a b c) i ≡ a
   put-re h =
-      getD-set-other two (energies i) (reals i) c nan (λ e. omega arith)
-      ∙ (getD-set-other one (imaginaries i) (reals i) b nan (λ e. omega arith) ∙ getD-set-same sums (reals i) a nan (omega arith))
+      getD-set-other both (energies i) (reals i) c nan (λ e. omega arith)
+      ∙ (getD-set-other real (imaginaries i) (reals i) b nan (λ e. omega arith) ∙ getD-set-same sums (reals i) a nan (omega arith))
 
   put-im : 3 * i + 2 < length sums → entry imaginaries (put sums i a b c) i ≡ b
   put-im h =
-      getD-set-other two (energies i) (imaginaries i) c nan (λ e. omega arith)
-      ∙ getD-set-same one (imaginaries i) b nan (simp length-set (omega arith))
+      getD-set-other both (energies i) (imaginaries i) c nan (λ e. omega arith)
+      ∙ getD-set-same real (imaginaries i) b nan (simp length-set (omega arith))
 
   put-energy : 3 * i + 2 < length sums → entry energies (put sums i a b c) i ≡ c
-  put-energy h = getD-set-same two (energies i) c nan (simp length-set h)
+  put-energy h = getD-set-same both (energies i) c nan (simp length-set h)
 
 -- ---- one of the lists: its entries up to i are ps, and a is the last of them
-pub record Track (place : ℕ → ℕ) (ps : List Float) (i : ℕ) (sums : List Float) (a : Float) : Type 0 where
-  pub held : (j : ℕ) → j ≤ i → entry place sums j ≡ getD ps j nan
+pub record Track (slot : ℕ → ℕ) (ps : List Float) (i : ℕ) (sums : List Float) (a : Float) : Type 0 where
+  pub held : (j : ℕ) → j ≤ i → entry slot sums j ≡ getD ps j nan
   pub last : a ≡ getD ps i nan
 
-track-first : (place : ℕ → ℕ) (g : ℕ → Float) (n : ℕ) (ps new : List Float) → SumsOf g n ps → entry place new 0 ≡ plusZero binary64
-    → Track place ps 0 new (plusZero binary64)
-track-first place g n ps new p e = record { held = λ j l. let q : j ≡ 0 = omega arith in rw q (e ∙ sym (p .none)); last = sym (p .none) }
+track-first : (slot : ℕ → ℕ) (g : ℕ → Float) (n : ℕ) (ps new : List Float) → SumsOf g n ps → entry slot new 0 ≡ plusZero binary64
+    → Track slot ps 0 new (plusZero binary64)
+track-first slot g n ps new p e = record { held = λ j l. let q : j ≡ 0 = omega arith in rw q (e ∙ sym (p .none)); last = sym (p .none) }
 
-track-next : (place : ℕ → ℕ) (g : ℕ → Float) (n : ℕ) (ps sums new : List Float) (i : ℕ) (a v : Float) → SumsOf g n ps → i < n → v ≡ g i
-    → ((j : ℕ) → j ≤ i → entry place new j ≡ entry place sums j) → entry place new (i + 1) ≡ add binary64 a v
-    → Track place ps i sums a → Track place ps (i + 1) new (add binary64 a v)
-track-next place g n ps sums new i a v p h e old here t =
+track-next : (slot : ℕ → ℕ) (g : ℕ → Float) (n : ℕ) (ps sums new : List Float) (i : ℕ) (a v : Float) → SumsOf g n ps → i < n → v ≡ g i
+    → ((j : ℕ) → j ≤ i → entry slot new j ≡ entry slot sums j) → entry slot new (i + 1) ≡ add binary64 a v
+    → Track slot ps i sums a → Track slot ps (i + 1) new (add binary64 a v)
+track-next slot g n ps sums new i a v p h e old here t =
     let sum : add binary64 a v ≡ getD ps (i + 1) nan = rw (t .last, e) (p .more i h) in
     record { held = λ j l. by sum j l (decLt i j); last = sum }
   where
-    by : add binary64 a v ≡ getD ps (i + 1) nan → (j : ℕ) → j ≤ i + 1 → Dec (i < j) → entry place new j ≡ getD ps j nan
+    by : add binary64 a v ≡ getD ps (i + 1) nan → (j : ℕ) → j ≤ i + 1 → Dec (i < j) → entry slot new j ≡ getD ps j nan
     by sum j l (yes k) = let q : j ≡ i + 1 = omega arith in rw q (here ∙ sum)
     by sum j l (no k) = let m : j ≤ i = omega arith in old j m ∙ t .held j m
 
@@ -160,5 +160,6 @@ module _ (n : ℕ) (xs : List Float) (i : ℕ) (a b : Pair) (f : a ≡ pairAt xs
   pub product-by : (c m p : Pair) → c ≡ conjugate b → m ≡ product binary32 a c → p ≡ m → p ≡ lagProduct n xs i
   product-by c m p q r s = s ∙ (r ∙ rw (q, f, g))
 
-  pub energy-by : (x y both : Float) → x ≡ squaredSize binary32 a → y ≡ squaredSize binary32 b → both ≡ add binary32 x y → mul binary64 both half ≡ lagEnergy n xs i
+  pub energy-by : (x y both : Float) → x ≡ squaredSize binary32 a → y ≡ squaredSize binary32 b → both ≡ add binary32 x y
+      → mul binary64 both half ≡ lagEnergy n xs i
   energy-by x y both q r s = rw (s, q, r, f, g)

@@ -2,7 +2,7 @@
 -- Assumes nothing.
 use Prim.Native.Nat.{ℕ, _+_, _-_, _*_, _/_, _≤_, _<_}
 use mathlib.Core.Bool.{Bool, true, false, cond}
-use mathlib.Core.List.{List, [], _∷_, _++_, map}
+use mathlib.Core.List.{List, [], _∷_, map}
 use mathlib.Core.Path.{_≡_, refl, sym, ap, _∙_}
 use native.Mathlib.Omega.{arith}
 use native.Mathlib.Numerals.{add-one}
@@ -19,26 +19,24 @@ use Rattle.guess.specs.declared.Best.{Best}
 use Rattle.guess.specs.declared.GuardSearch.{GuardSearch}
 use Rattle.guess.specs.declared.GuardSearch.the-variants.{Found, Nothing}
 use Rattle.guess.specs.Samples.{fftOf, guardOf, symbolOf}
-use Rattle.guess.specs.Guess.{pairsIn, lagsIn, realPrefixes, imaginaryPrefixes, energyPrefixes, starts, windowSum, correlationAt, energyAt, guessAt, offered, scan, triedGuard, triedMode, guessed}
+use Rattle.guess.specs.Guess.{pairsIn, lagsIn, realPrefixes, imaginaryPrefixes, energyPrefixes, starts, windowSum}
+use Rattle.guess.specs.Guess.{correlationAt, energyAt, guessAt, offered, scan, triedGuard, triedMode, guessed}
+use Rattle.guess.specs.Facts.{scan-last}
 use Rattle.guess.specs.Inner.{reals, imaginaries, energies, entry, Holds, gap, gaps, Windowed, searchOf, guessOf, betterOf, Tried}
 
 -- ---- one entry more
 module _ (f : GuardSearch → ℕ → GuardSearch) where
-  scan-last : (b : GuardSearch) (xs : List ℕ) (x : ℕ) → scan f b (xs ++ (x ∷ [])) ≡ f (scan f b xs) x
-  unfolding scan
-  scan-last b [] x = refl
-  scan-last b (y ∷ xs) x = scan-last (f b y) xs x
-
   pub none : (b : GuardSearch) → b ≡ scan f b []
   unfolding scan
   none b = refl
 
   pub next-number : (b r s : GuardSearch) (d : ℕ) → r ≡ scan f b (range d) → s ≡ f r d → s ≡ scan f b (range (d + 1))
-  next-number b r s d e g = rw add-one (g ∙ (ap (λ (z : GuardSearch). f z d) e ∙ sym (scan-last b (range d) d)))
+  next-number b r s d e g = rw add-one (g ∙ (ap (λ (z : GuardSearch). f z d) e ∙ sym (scan-last f b (range d) d)))
 
-  pub next-entry : (b r s : GuardSearch) (xs : List ℕ) (i : ℕ) → i < length xs → r ≡ scan f b (take i xs) → s ≡ f r (getD xs i 0) → s ≡ scan f b (take (i + 1) xs)
+  pub next-entry : (b r s : GuardSearch) (xs : List ℕ) (i : ℕ) → i < length xs → r ≡ scan f b (take i xs) → s ≡ f r (getD xs i 0)
+      → s ≡ scan f b (take (i + 1) xs)
   next-entry b r s xs i h e g =
-      rw (add-one, take-suc xs i 0 h) (g ∙ (ap (λ (z : GuardSearch). f z (getD xs i 0)) e ∙ sym (scan-last b (take i xs) (getD xs i 0))))
+      rw (add-one, take-suc xs i 0 h) (g ∙ (ap (λ (z : GuardSearch). f z (getD xs i 0)) e ∙ sym (scan-last f b (take i xs) (getD xs i 0))))
 
 -- ---- an offset
 map-select : (f g : ℕ → Float) (t : ℕ → Bool) (xs : List ℕ) → ((a : ℕ) → t a ≡ true → f a ≡ g a) → map f (select t xs) ≡ map g (select t xs)
@@ -51,12 +49,12 @@ map-select f g t (x ∷ xs) h = by (t x) (h x) (map-select f g t xs h)
     by false q r = r
 
 -- sums that hold a list give its window sums: each start's guard ends within it
-sum-by : (place : ℕ → ℕ) (sums ps : List Float) (p ng len d : ℕ) → ((i : ℕ) → i ≤ len → entry place sums i ≡ getD ps i nan)
-    → gaps place sums ng (plusZero binary64) (starts p ng len d) ≡ windowSum ps ng (starts p ng len d)
+sum-by : (slot : ℕ → ℕ) (sums ps : List Float) (p ng len d : ℕ) → ((i : ℕ) → i ≤ len → entry slot sums i ≡ getD ps i nan)
+    → gaps slot sums ng (plusZero binary64) (starts p ng len d) ≡ windowSum ps ng (starts p ng len d)
 unfolding starts windowSum
-sum-by place sums ps p ng len d h =
+sum-by slot sums ps p ng len d h =
     ap (total binary64 (plusZero binary64))
-    (map-select (gap (entry place sums) ng) (gap (λ i. getD ps i nan) ng) (λ a. leb (a + ng) len) (upTo (λ s. d + s * p) ((len - ng) / p)) (λ a t.
+    (map-select (gap (entry slot sums) ng) (gap (λ i. getD ps i nan) ng) (λ a. leb (a + ng) len) (upTo (λ s. d + s * p) ((len - ng) / p)) (λ a t.
     let l : a + ng ≤ len = leb-true (a + ng) len t in
     rw (h (a + ng) l, h a (omega arith))))
 

@@ -72,11 +72,11 @@ module _ (p ng len d : ℕ) where
   next-start a s e = omega (arith, add-mul s 1 p)
 
   -- where there is a start, a symbol fits behind the guard
-  pub one-fits : (s : ℕ) → s < count → p ≤ len - ng
-  one-fits s h = omega (arith, le-trans (mul-le-mul-left p (one count h)) (mul-div-le (len - ng) p))
+  pub symbol-fits : (s : ℕ) → s < count → p ≤ len - ng
+  symbol-fits s h = omega (arith, le-trans (mul-le-mul-left p (some count h)) (mul-div-le (len - ng) p))
     where
-      one : (n : ℕ) → s < n → 1 ≤ n
-      one n l = omega arith
+      some : (n : ℕ) → s < n → 1 ≤ n
+      some n l = omega arith
 
 -- ---- sums a, b and c, with the starts rest ahead, come to the sums over all
 pub record Ahead (sums : List Float) (ng : ℕ) (all : List ℕ) (a b c : Float) (rest : List ℕ) : Type 0 where
@@ -86,7 +86,7 @@ pub record Ahead (sums : List Float) (ng : ℕ) (all : List ℕ) (a b c : Float)
 
 -- what the start k adds to s
 abbrev pub plus : (ℕ → ℕ) → List Float → ℕ → Float → ℕ → Float
-plus place sums ng s k = add binary64 s (gap (entry place sums) ng k)
+plus slot sums ng s k = add binary64 s (gap (entry slot sums) ng k)
 
 pub begin : (sums : List Float) (ng : ℕ) (all rest : List ℕ) → rest ≡ all
     → Ahead sums ng all (plusZero binary64) (plusZero binary64) (plusZero binary64) rest

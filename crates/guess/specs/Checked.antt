@@ -3,7 +3,7 @@
 -- Assumes nothing.
 use Prim.Native.Nat.{ℕ, zero, suc, _+_, _-_, _*_, _/_, _≤_, _<_, suc-le-suc}
 use mathlib.Core.Bool.{Bool, true, false, cond}
-use mathlib.Core.List.{List, [], _∷_, _++_}
+use mathlib.Core.List.{List, [], _∷_}
 use mathlib.Core.Path.{_≡_, refl, sym, ap, subst, _∙_}
 use native.Mathlib.Nat.{le-trans, le-of-suc-le-suc, not-suc-le-zero, mul-one}
 use native.Mathlib.Omega.{arith}
@@ -26,7 +26,7 @@ use Rattle.guess.specs.Samples.{fftOf, guardOf, symbolOf}
 use Rattle.guess.specs.Guess.{pairsIn, lagsIn, lagProduct, lagEnergy, realPrefixes, imaginaryPrefixes, energyPrefixes}
 use Rattle.guess.specs.Guess.{starts, windowSum, correlationAt, energyAt, guessAt, offered, scan, triedGuard, triedMode, guessed}
 use Rattle.guess.specs.Guess.{guessCode, guessAnswer}
-use Rattle.guess.specs.Facts.{first-taken, only-greater}
+use Rattle.guess.specs.Facts.{first-taken, only-greater, scan-last}
 use Rattle.guess.specs.declared.ModeGuess.{ModeGuess}
 use Rattle.guess.specs.declared.GuardSearch.{GuardSearch}
 use Rattle.guess.specs.declared.GuardSearch.the-variants.{Found, Nothing}
@@ -56,7 +56,7 @@ module _ (xs : List Float) (mode guard : ℕ) where
       ap (λ (b : Bool). cond b (scan (offered xs mode guard) Nothing (range (symbolOf mode guard))) Nothing) (le-leb need (lagsIn (fftOf mode) xs) h)
 
 -- a call that nothing refuses
-not-refused : (xs : List Float) (modes guards : List ℕ) (scratch : ℕ) → guessCode modes guards (length xs) scratch ≡ 0
+pub not-refused : (xs : List Float) (modes guards : List ℕ) (scratch : ℕ) → guessCode modes guards (length xs) scratch ≡ 0
     → guessAnswer xs modes guards scratch ≡ guessed xs modes guards
 unfolding guessAnswer
 not-refused xs modes guards scratch e = rw e
@@ -65,7 +65,7 @@ code-10559 : (floats scratch : ℕ) → floats ≡ 2 * 10559 → 3 * 10560 ≤ s
 unfolding guessCode
 code-10559 floats scratch n r = rw (n, le-leb 31680 scratch r)
 
-code-10560 : (floats scratch : ℕ) → floats ≡ 2 * 10560 → 3 * 10561 ≤ scratch → guessCode (1 ∷ []) (32 ∷ []) floats scratch ≡ 0
+pub code-10560 : (floats scratch : ℕ) → floats ≡ 2 * 10560 → 3 * 10561 ≤ scratch → guessCode (1 ∷ []) (32 ∷ []) floats scratch ≡ 0
 unfolding guessCode
 code-10560 floats scratch n r = rw (n, le-leb 31683 scratch r)
 
@@ -74,11 +74,6 @@ one-short xs scratch n r =
     not-refused xs (1 ∷ []) (32 ∷ []) scratch (code-10559 (length xs) scratch n r) ∙ alone-short xs 1 32 (rw n (lit< tt))
 
 -- ---- a search whose first entry is taken and never replaced
-scan-last : (f : GuardSearch → ℕ → GuardSearch) (b : GuardSearch) (xs : List ℕ) (x : ℕ) → scan f b (xs ++ (x ∷ [])) ≡ f (scan f b xs) x
-unfolding scan
-scan-last f b [] x = refl
-scan-last f b (y ∷ xs) x = scan-last f (f b y) xs x
-
 module _ (f : GuardSearch → ℕ → GuardSearch) (g : ModeGuess) (taken : f Nothing 0 ≡ Found g) where
   -- n is counted by a variable, so that the numbers below it are never listed
   first-stays : (n m : ℕ) → n ≡ suc m → ((d : ℕ) → d < n → f (Found g) d ≡ Found g) → scan f Nothing (range n) ≡ Found g
@@ -306,9 +301,14 @@ module _ (xs : List Float) (n : length xs ≡ 2 * 10560) (h : (i : ℕ) → i < 
       let c = correlation-is 0 (lit< tt) in
       λ j. record { mode = 1; guard = 32; offset = 0; metric = metric-is 0 (lit< tt) j; re = c j .re; im = c j .im }
 
+pub ones-found : (xs : List Float) → length xs ≡ 2 * 10560 → ((i : ℕ) → i < 10560 → pairAt xs i ≡ pair (whole binary32 1) (whole binary32 0))
+    → guessed xs (1 ∷ []) (32 ∷ [])
+    ≡ Found (record { mode = 1; guard = 32; offset = 0; metric = whole binary64 1; re = whole binary64 256; im = whole binary64 0 })
+ones-found xs n h = searched xs n h ∙ ap Found (guess-is xs n h)
+
 pub offset-zero : (xs : List Float) (scratch : ℕ) → length xs ≡ 2 * 10560 → 3 * 10561 ≤ scratch
     → ((i : ℕ) → i < 10560 → pairAt xs i ≡ pair (whole binary32 1) (whole binary32 0))
     → guessAnswer xs (1 ∷ []) (32 ∷ []) scratch
     ≡ Found (record { mode = 1; guard = 32; offset = 0; metric = whole binary64 1; re = whole binary64 256; im = whole binary64 0 })
 offset-zero xs scratch n r h =
-    not-refused xs (1 ∷ []) (32 ∷ []) scratch (code-10560 (length xs) scratch n r) ∙ searched xs n h ∙ ap Found (guess-is xs n h)
+    not-refused xs (1 ∷ []) (32 ∷ []) scratch (code-10560 (length xs) scratch n r) ∙ ones-found xs n h

@@ -4,7 +4,7 @@
 -- Assumes nothing.
 use Prim.Native.Nat.{ℕ, zero, suc, _+_, _*_, _≤_, _<_}
 use mathlib.Core.Bool.{Bool, true, false, _||_, cond}
-use mathlib.Core.List.{List, [], _∷_}
+use mathlib.Core.List.{List, [], _∷_, _++_}
 use mathlib.Core.Path.{_≡_, refl, sym, ap, subst, _∙_}
 use native.Mathlib.Nat.{le-of-suc-le-suc, not-suc-le-zero}
 use native.Mathlib.Omega.{arith}
@@ -59,6 +59,12 @@ scan-keeps : (P : GuardSearch → Type 0) (f : GuardSearch → ℕ → GuardSear
 unfolding scan
 scan-keeps P f k b [] h = h
 scan-keeps P f k b (x ∷ xs) h = scan-keeps P f k (f b x) xs (k b x h)
+
+-- the last entry comes last
+pub scan-last : (f : GuardSearch → ℕ → GuardSearch) (b : GuardSearch) (xs : List ℕ) (x : ℕ) → scan f b (xs ++ (x ∷ [])) ≡ f (scan f b xs) x
+unfolding scan
+scan-last f b [] x = refl
+scan-last f b (y ∷ xs) x = scan-last f (f b y) xs x
 
 -- P is kept by a guard, a mode and the whole search where an offset keeps it
 module _ (P : GuardSearch → Type 0) (xs : List Float) (k : (mode guard : ℕ) (b : GuardSearch) (d : ℕ) → P b → P (offered xs mode guard b d)) where

@@ -41,7 +41,7 @@ abbrev pub energies : ℕ → ℕ
 energies i = 3 * i + 2
 
 abbrev pub entry : (ℕ → ℕ) → List Float → ℕ → Float
-entry place sums i = getD sums (place i) nan
+entry slot sums i = getD sums (slot i) nan
 
 -- the entries up to last are the prefix sums of samples n apart
 pub record Written (n : ℕ) (xs : List Float) (last : ℕ) (sums : List Float) : Type 0 where
@@ -66,7 +66,7 @@ abbrev pub gap : (ℕ → Float) → ℕ → ℕ → Float
 gap sum ng a = sub binary64 (sum (a + ng)) (sum a)
 
 abbrev pub gaps : (ℕ → ℕ) → List Float → ℕ → Float → List ℕ → Float
-gaps place sums ng s from = total binary64 s (map (gap (entry place sums) ng) from)
+gaps slot sums ng s from = total binary64 s (map (gap (entry slot sums) ng) from)
 
 pub record Windowed (sums : List Float) (ng : ℕ) (from : List ℕ) (w : Window) : Type 0 where
   pub re : w .re ≡ gaps reals sums ng (plusZero binary64) from

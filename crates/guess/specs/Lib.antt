@@ -6,3 +6,4 @@ pub mod Louder
 pub mod Changed
 pub mod Facts
 pub mod Checked
+pub mod Worked

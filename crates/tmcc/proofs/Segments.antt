@@ -15,30 +15,19 @@ use Rattle.lists.specs.Fill.{joined-range}
 use Rattle.params.specs.declared.Mode.{Mode}
 use Rattle.params.specs.declared.SegmentKind.{SegmentKind}
 use Rattle.params.specs.Params.{carriersPerSegment, totalCarriers, kindFrom}
-use Rattle.params.specs.Laws.{sized}
 use Rattle.tables.specs.declared.Positions.{Positions}
 use Rattle.tables.specs.Places.{Listed, tmccOf}
 use Rattle.tables.specs.Fronts.{front}
 use Rattle.tables.specs.Rule.{tmcc-below}
 use Rattle.ofdm.specs.Band.{segmentAt}
-use Rattle.ofdm.specs.Laws.{segment-ends}
 use Rattle.tmcc.specs.Tmcc.{passes, placeTmcc, tmccCarriers, softTerm, softValue}
 use Rattle.tmcc.specs.Inner.{Addable, addedTo}
 
--- ---- the segment at a place of the band, of c carriers
-module _ (mode : Mode) (c place : ℕ) (sizes : c ≡ carriersPerSegment mode) (h : place < 13) where
-  pub first-small : place * c ≤ 5617
-  first-small = rw sizes (omega (arith, segment-ends mode place h, sized mode .band-high))
-
-  -- the places of its row can be added
-  pub addable : (len n : ℕ) (kind : SegmentKind) (seg : ℕ) (r : Positions) → len ≡ totalCarriers mode → n ≡ 4 * totalCarriers mode → seg < 13
-      → Listed r (tmccOf mode kind seg) → Addable (front r) (place * c) len n
-  addable len n kind seg r band two in-table l =
-      rw (l .places, sizes, band)
-      (record {
-        inside = λ i t. omega (arith, segment-ends mode place h, tmcc-below mode kind seg in-table i t);
-        two = two;
-      })
+-- the places of a row can be added
+pub addable : (mode : Mode) (place n : ℕ) (kind : SegmentKind) (seg : ℕ) (r : Positions) → place < 13 → n ≡ 4 * totalCarriers mode → seg < 13
+    → Listed r (tmccOf mode kind seg) → Addable mode place (front r) n
+addable mode place n kind seg r h two in-table l =
+    rw (l .places) (record { in-band = h; in-segment = tmcc-below mode kind seg in-table; two = two })
 
 -- ---- the loop
 module _ (mode : Mode) (kinds : List ℕ) (filter : ℕ) (xs : List Float) where
@@ -67,7 +56,8 @@ module _ (mode : Mode) (kinds : List ℕ) (filter : ℕ) (xs : List Float) where
     more sum' e = record { passed = omega arith; summed = e ∙ rw (add-one place, joined-range carriersAt place, map-append, total-append, s .summed) }
 
     -- the segment at the place, and whether its kind passes
-    module _ (seg : ℕ) (kind : SegmentKind) (b : Bool) (at : seg ≡ segmentAt place) (k : kind ≡ kindFrom (getD kinds seg 0)) (told : b ≡ passes filter kind) where
+    module _ (seg : ℕ) (kind : SegmentKind) (b : Bool) (at : seg ≡ segmentAt place) (k : kind ≡ kindFrom (getD kinds seg 0))
+        (told : b ≡ passes filter kind) where
       carriers-are : carriersAt place ≡ cond b (map (λ p. place * carriersPerSegment mode + p) (tmccOf mode kind seg)) []
       carriers-are = rw (told, k, at)
 
@@ -75,7 +65,7 @@ module _ (mode : Mode) (kinds : List ℕ) (filter : ℕ) (xs : List Float) where
       unfolding total
       skip e = more sum (rw (carriers-are, e))
 
-      pub further : (c len : ℕ) (r : Positions) (sum' : Float) → b ≡ true → c ≡ carriersPerSegment mode → len ≡ totalCarriers mode → Listed r (tmccOf mode kind seg)
-          → sum' ≡ addedTo sum len xs (place * c) (front r) → Summed sum' (place + 1)
+      pub further : (r : Positions) (sum' : Float) → b ≡ true → Listed r (tmccOf mode kind seg) → sum' ≡ addedTo sum mode place xs (front r)
+          → Summed sum' (place + 1)
       unfolding addedTo
-      further c len r sum' e sizes band l a = more sum' (a ∙ rw (carriers-are, e, map-map, l .places, sizes, band))
+      further r sum' e l a = more sum' (a ∙ rw (carriers-are, e, map-map, l .places))

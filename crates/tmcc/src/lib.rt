@@ -8,6 +8,8 @@ ghost use Rattle.tmcc.specs.Tmcc.{passes, softValue, SoftTold};
 ghost use Rattle.tmcc.specs.Inner.{Addable, addedTo};
 use frame::FrameLayout;
 use ofdm::BandPlace;
+use ofdm::SegmentPlace;
+use params::Mode;
 use params::SegmentKind;
 
 pub enum SoftTmcc {
@@ -25,18 +27,19 @@ fn passes(filter: u8, kind: SegmentKind) -> bool
     filter == kind.code()
 }
 
-// Adds the real parts of the products at the places of a segment whose carrier 0 is `first`. `spectra`
-// are two of `len` pairs, the earlier first.
-fn add_places(start: f32, places: &[u16], first: usize, spectra: &[f32], len: usize) -> f32
-    requires { ⌜ Addable (now places) first len (length (now spectra)) ⌝ }
-    ensures { λ r. ⌜ r ≡ addedTo start len (now (spectra .entry)) first (now (places .entry)) ⌝ }
+// Adds the real parts of the products at places of the segment that has a place in the band. `spectra` are
+// two, the earlier first.
+fn add_places(start: f32, mode: Mode, place: BandPlace, places: &[u16], spectra: &[f32]) -> f32
+    requires { ⌜ Addable mode (place .0) (now places) (length (now spectra)) ⌝ }
+    ensures { λ r. ⌜ r ≡ addedTo start mode (place .0) (now (spectra .entry)) (now (places .entry)) ⌝ }
 {
+    let len = mode.total_carriers();
     let mut sum = start;
     let mut i: usize = 0;
     while i < places.len() {
-        let k = first + places[i] as usize;
-        let later = spectra::pair_at(spectra, len + k);
-        let earlier = spectra::pair_at(spectra, k);
+        let k = ofdm::band_carrier(mode, place, SegmentPlace(places[i] as usize));
+        let later = spectra::pair_at(spectra, len + k.0);
+        let earlier = spectra::pair_at(spectra, k.0);
         let p = later.mul(earlier.conj());
         sum = sum + p.re;
         i += 1;
@@ -50,20 +53,19 @@ fn soft_value(layout: FrameLayout, spectra: &[f32], filter: u8) -> f32
     ensures { λ r. ⌜ r ≡ softValue (layout .mode) (layout .kinds) filter (now (spectra .entry)) ⌝ }
 {
     let mode = layout.mode;
-    let c = mode.carriers_per_segment();
-    let len = mode.total_carriers();
     let mut sum = ieee::NEGATIVE_ZERO;
-    let mut place: usize = 0;
-    while place < 13 {
-        let seg = ofdm::segment_at_position(BandPlace(place));
+    let mut number: usize = 0;
+    while number < 13 {
+        let place = BandPlace(number);
+        let seg = ofdm::segment_at_position(place);
         let kind = layout.kind(seg);
         if passes(filter, kind) {
             let row = tables::tmcc_positions(mode, kind, seg.0);
             let places = row.places;
             let count = row.count;
-            sum = add_places(sum, &places[..count], place * c, spectra, len);
+            sum = add_places(sum, mode, place, &places[..count], spectra);
         }
-        place += 1;
+        number += 1;
     }
     sum
 }

@@ -82,7 +82,8 @@ returns : tie.Need-returns Inv-loop μ-loop
 returns c =
     let l = c .before in
     let s = l .before .before .before in
-    l .loop .inv .1 ∙ ap (λ (t : List ℕ). greatest (map (neededBy (s .args .symbols) (s .args .mode)) t)) (take-all _ (s .args .guards .now) (c .loop-test .left))
+    let all = take-all _ (s .args .guards .now) (c .loop-test .left) in
+    l .loop .inv .1 ∙ ap (λ (t : List ℕ). greatest (map (neededBy (s .args .symbols) (s .args .mode)) t)) all
 
 pub mode-needs-spec : {M : Type 1} → statement M
 mode-needs-spec =

@@ -72,7 +72,8 @@ loop-again c =
       omega arith,
       λ xs h e.
           next-number _ _ _ _ (l .loop .d) (l .loop .inv .1 xs h e)
-          (next-offset xs (s .mode) (s .guard) (f .result) (s .len) (f .ensures) e (s .sums .now) _ _ (l .loop .d) _ h (c .before .window-at .ensures) (c .offer .ensures)),
+          (next-offset xs (s .mode) (s .guard) (f .result) (s .len) (f .ensures) e (s .sums .now) _ _ (l .loop .d) _ h
+          (c .before .window-at .ensures) (c .offer .ensures)),
     )
 
 returns-2 : tie.Need-returns-2 Inv-loop μ-loop

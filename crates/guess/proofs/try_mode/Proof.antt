@@ -78,7 +78,8 @@ returns-2 c =
     let w = l .before .before .before in
     let f = w .before .before .before .fft-of in
     let s = w .before .before .before .before .before .before .before .args in
-    all-guards (s .samples .now) (s .mode) (f .result) (f .ensures) (s .guards .now) _ _ (l .loop .i) (w .before .before .if1 .left) (c .loop-test .left) (l .loop .inv .1)
+    all-guards (s .samples .now) (s .mode) (f .result) (f .ensures) (s .guards .now) _ _ (l .loop .i) (w .before .before .if1 .left)
+    (c .loop-test .left) (l .loop .inv .1)
 
 pub try-mode-spec : {M : Type 1} → statement M
 try-mode-spec =

@@ -5,7 +5,7 @@ use mathlib.Core.Path.{_≡_}
 use native.Mathlib.Nat.{div-le-self}
 use native.Mathlib.Omega.{arith}
 use Rattle.guess.specs.Guess.{starts}
-use Rattle.guess.proofs.Windows.{from, from-all, from-cons, from-stop, from-end, next-start, one-fits, Ahead, begin, further, finish}
+use Rattle.guess.proofs.Windows.{from, from-all, from-cons, from-stop, from-end, next-start, symbol-fits, Ahead, begin, further, finish}
 use Rattle.guess.proofs.window_at.Statement.{statement}
 use Rattle.guess.proofs.window_at.Tie as tie
 
@@ -16,10 +16,10 @@ Inv-loop sums ng p len d count re₀ im₀ energy₀ a₀ s₀ re im energy a s 
 abbrev μ-loop : tie.MeasureT-loop
 μ-loop sums ng p len d count re₀ im₀ energy₀ a₀ s₀ re im energy a s = count - s
 
-one : (c : tie.In-loop Inv-loop μ-loop) → let s = c .before .before .args in s .p ≤ s .len - s .ng
-one c =
+fits : (c : tie.In-loop Inv-loop μ-loop) → let s = c .before .before .args in s .p ≤ s .len - s .ng
+fits c =
     let s = c .before .before .args in
-    one-fits (s .p) (s .ng) (s .len) (s .d) (c .before .loop .s) (c .loop-test .taken)
+    symbol-fits (s .p) (s .ng) (s .len) (s .d) (c .before .loop .s) (c .loop-test .taken)
 
 sub-count : tie.Need-sub-count Inv-loop μ-loop
 sub-count c = omega arith
@@ -33,7 +33,7 @@ loop-holds c =
     (omega arith, omega arith, omega arith, begin (s .sums .now) _ _ _ (from-all (s .p) (s .ng) (s .len) (s .d)))
 
 add-b : tie.Need-add-b Inv-loop μ-loop
-add-b c = omega (arith, one c)
+add-b c = omega (arith, fits c)
 
 mul-low : tie.Need-mul-low Inv-loop μ-loop
 mul-low c = omega arith
@@ -90,7 +90,7 @@ shared-slice-read-energy-2 : tie.Need-shared-slice-read-energy-2 Inv-loop μ-loo
 shared-slice-read-energy-2 c = omega arith
 
 add-a : tie.Need-add-a Inv-loop μ-loop
-add-a c = omega (arith, one (c .before .before .before .before .before .before .before))
+add-a c = omega (arith, fits (c .before .before .before .before .before .before .before))
 
 add-s : tie.Need-add-s Inv-loop μ-loop
 add-s c =

@@ -110,7 +110,8 @@ loop-again c =
       simp length-set (l .loop .inv .2),
       again (s .args .n) x i (l .loop .scratch) _ _ _ (of64 (w .widen .result)) _ (omega arith) (omega arith)
           (product-by (s .args .n) x i _ _ at-i at-n _ _ _ (w .before .before .conj .ensures) (w .before .mul .ensures) (w .widen .ensures))
-          (energy-by (s .args .n) x i _ _ at-i at-n _ _ _ (c .before .before .norm-sqr .ensures) (c .before .norm-sqr2 .ensures) (c .f32-to-f64-with-nan .ensures))
+          (energy-by (s .args .n) x i _ _ at-i at-n _ _ _ (c .before .before .norm-sqr .ensures) (c .before .norm-sqr2 .ensures)
+          (c .f32-to-f64-with-nan .ensures))
           (l .loop .inv .3),
     )
 

@@ -38,7 +38,8 @@ returns-4 : tie.Need-returns-4
 returns-4 c =
     let t = c .before .before .before in
     let n = t .before .before .before in
-    answered _ _ _ _ _ (n .new .ensures) _ _ (t .before .before .if1 .left) _ (t .total-carriers .ensures) (c .before .before .if2 .left) _ (c .before .if3 .left) (c .soft-value .ensures)
+    answered _ _ _ _ _ (n .new .ensures) _ _ (t .before .before .if1 .left) _ (t .total-carriers .ensures) (c .before .before .if2 .left)
+    _ (c .before .if3 .left) (c .soft-value .ensures)
 
 pub tmcc-soft-spec : {M : Type 1} → statement M
 tmcc-soft-spec =
