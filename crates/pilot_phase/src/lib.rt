@@ -15,6 +15,7 @@ use complex::C32;
 use frame::FrameLayout;
 use ofdm::BandCarrier;
 use ofdm::BandPlace;
+use ofdm::Segment;
 use ofdm::SegmentPlace;
 use params::Mode;
 use params::SegmentKind;
@@ -262,13 +263,16 @@ fn nothing(answer: PhaseAnswer) -> PilotAnswer
 fn has_pilots(layout: FrameLayout) -> bool
     ensures { λ r. ⌜ r ≡ somePilots (layout .mode) (layout .kinds) ⌝ }
 {
-    let kinds = layout.kinds;
     let mut seg: usize = 0;
     while seg < 13 {
-        if kinds[seg] == 0 {
-            return true;
+        match layout.kind(Segment(seg)) {
+            SegmentKind::Coherent => {
+                return true;
+            }
+            SegmentKind::Differential => {
+                seg += 1;
+            }
         }
-        seg += 1;
     }
     false
 }
