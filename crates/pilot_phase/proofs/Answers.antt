@@ -26,15 +26,11 @@ use Rattle.pilot_phase.specs.declared.PhaseAnswer.{PhaseAnswer}
 use Rattle.pilot_phase.specs.declared.PhaseAnswer.the-variants.{Detected, Refused}
 use Rattle.pilot_phase.specs.declared.PilotAnswer.{PilotAnswer}
 use Rattle.pilot_phase.specs.Ballots.{pilots, ballots}
-use Rattle.pilot_phase.specs.PilotPhase.{votes, countOf, countsOf, wonBy, nextTo, shareOf, phaseOf, leadOf}
+use Rattle.pilot_phase.specs.PilotPhase.{votes, countOf, countsOf, nextTo, shareOf, phaseOf, leadOf}
 use Rattle.pilot_phase.specs.PilotPhase.{phaseCode, detected, phaseAnswer, noCounts, countsAnswer, phaseNumber, PhaseDetected}
 use Rattle.pilot_phase.specs.Inner.{Votable, Won, somePilots, Nothing}
-use Rattle.pilot_phase.specs.Facts.{phase-number, ballots-length, counts-at, next-below}
+use Rattle.pilot_phase.specs.Facts.{phase-number, ballots-length, counts-at, no-lead, next-below}
 use Rattle.pilot_phase.proofs.Counting.{votes-few}
-
-no-lead : leadOf noCounts ≡ 0
-unfolding leadOf wonBy nextTo
-no-lead = refl
 
 -- ---- few spectra
 module _ (m : Mode) (xs : List Float) {k : ℕ} (sizes : k ≡ totalCarriers m) (f : length xs / (2 * k) ≤ 1024) where

@@ -29,8 +29,8 @@ use Rattle.pilot_phase.specs.declared.PilotPhase.the-variants.{Phase}
 use Rattle.pilot_phase.specs.declared.PhaseAnswer.the-variants.{Detected, Refused}
 use Rattle.pilot_phase.specs.Ballots.{pilots, pilotPairs, Ballot, ballotAt, ballots}
 use Rattle.pilot_phase.specs.PilotPhase.{phaseAt, voteOf, votesFrom, votes, countOf, countsOf, plusCounts, turnedBack}
-use Rattle.pilot_phase.specs.PilotPhase.{better, wonBy, shareOf, phaseOf, larger, largest, others, nextTo}
-use Rattle.pilot_phase.specs.PilotPhase.{phaseCode, detected, phaseAnswer, countsAnswer, phaseNumber}
+use Rattle.pilot_phase.specs.PilotPhase.{better, wonBy, shareOf, phaseOf, larger, largest, others, nextTo, leadOf}
+use Rattle.pilot_phase.specs.PilotPhase.{phaseCode, detected, phaseAnswer, noCounts, countsAnswer, phaseNumber}
 use Rattle.pilot_phase.specs.Pilots.{isPilot, pilots-leave, apart-member}
 
 -- ---- an answer's number is the code
@@ -99,6 +99,20 @@ pub counts-total : (mode : Mode) (kinds : List ℕ) (xs : List Float) → phaseC
     getD counts 0 0 + getD counts 1 0 + getD counts 2 0 + getD counts 3 0 ≡ spectraIn (totalCarriers mode) (length xs)
 unfolding countsAnswer countsOf
 counts-total mode kinds xs accepted some = rw (accepted, some) (votes-total 0 (ballots mode kinds xs) ∙ ballots-length mode kinds xs)
+
+-- without scattered pilots nothing is counted, whatever the number of spectra, and the lead is 0
+pub none-counted : (mode : Mode) (kinds : List ℕ) (xs : List Float) → eqb (length (pilots mode kinds 0)) 0 ≡ true
+    → countsAnswer (Known mode) kinds xs ≡ noCounts
+unfolding countsAnswer
+none-counted mode kinds xs none = rw none (by (eqb (phaseCode (Known mode) kinds (length xs)) 0))
+  where
+    by : (accepted : Bool) → cond accepted noCounts noCounts ≡ noCounts
+    by true = refl
+    by false = refl
+
+pub no-lead : leadOf noCounts ≡ 0
+unfolding leadOf wonBy nextTo
+no-lead = refl
 
 -- ---- ballots one behind another
 pub count-append : (us vs : List ℕ) (v : ℕ) → countOf (us ++ vs) v ≡ countOf us v + countOf vs v
