@@ -2,7 +2,7 @@
 -- Assumes nothing.
 use Prim.Native.Nat.{ℕ, _*_, _-_, _/_, _%_, _≤_, _<_}
 use mathlib.Core.Bool.{Bool, true, false, cond}
-use mathlib.Core.List.{List, [], _∷_}
+use mathlib.Core.List.{List}
 use mathlib.Core.Path.{_≡_, refl, sym, ap, _∙_}
 use native.Mathlib.Omega.{arith}
 use borrow.Author.Tests.{eq-eqb, ne-eqb, le-leb, lt-leb, not-false, not-true}
@@ -16,7 +16,7 @@ use Rattle.params.specs.declared.Mode.{Mode}
 use Rattle.params.specs.declared.ModeNumber.{ModeNumber}
 use Rattle.params.specs.declared.ModeNumber.the-variants.{Known, Unknown}
 use Rattle.params.specs.Params.{totalCarriers}
-use Rattle.spectra.specs.Spectra.{spectraIn, areSpectra}
+use Rattle.spectra.specs.Spectra.{areSpectra}
 use Rattle.prbs.specs.Signs.{bandSigns}
 use Rattle.frame.specs.Operations.{areKinds, layoutCode}
 use Rattle.frame.specs.Inner.{AcceptedLayout}
@@ -26,15 +26,11 @@ use Rattle.pilot_phase.specs.declared.PhaseAnswer.{PhaseAnswer}
 use Rattle.pilot_phase.specs.declared.PhaseAnswer.the-variants.{Detected, Refused}
 use Rattle.pilot_phase.specs.declared.PilotAnswer.{PilotAnswer}
 use Rattle.pilot_phase.specs.Ballots.{pilots, ballots}
-use Rattle.pilot_phase.specs.PilotPhase.{votes, countOf, countsOf, wonBy, nextTo, shareOf, phaseOf, leadOf}
+use Rattle.pilot_phase.specs.PilotPhase.{votes, countOf, countsOf, nextTo, shareOf, phaseOf, leadOf}
 use Rattle.pilot_phase.specs.PilotPhase.{phaseCode, detected, phaseAnswer, noCounts, countsAnswer, phaseNumber, PhaseDetected}
 use Rattle.pilot_phase.specs.Inner.{Votable, Won, somePilots, Nothing}
-use Rattle.pilot_phase.specs.Facts.{phase-number, ballots-length, counts-at, next-below}
+use Rattle.pilot_phase.specs.Facts.{phase-number, ballots-length, counts-at, no-lead, next-below}
 use Rattle.pilot_phase.proofs.Counting.{votes-few}
-
-no-lead : leadOf noCounts ≡ 0
-unfolding leadOf wonBy nextTo
-no-lead = refl
 
 -- ---- few spectra
 module _ (m : Mode) (xs : List Float) {k : ℕ} (sizes : k ≡ totalCarriers m) (f : length xs / (2 * k) ≤ 1024) where

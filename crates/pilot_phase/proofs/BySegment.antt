@@ -6,7 +6,7 @@ use mathlib.Core.List.{List, [], _∷_, _++_, append-nil}
 use mathlib.Core.Path.{_≡_, refl, ap, _∙_}
 use native.Mathlib.Nat.{le-of-suc-le-suc, not-suc-le-zero}
 use native.Mathlib.Omega.{arith}
-use borrow.Author.Tests.{eqb-true, eqb-false, eq-eqb, ne-eqb}
+use borrow.Author.Tests.{eqb-true, eqb-false, ne-eqb}
 use lib.Dec.{eqb}
 use lib.ListN.{length, getD, length-append}
 use Rattle.lists.specs.Lists.{upTo, joined, chosen}
@@ -89,17 +89,17 @@ joined-none f [] h = refl
 joined-none f (x ∷ xs) h = rw (h 0 (omega arith), joined-none f xs (λ i l. h (suc i) (suc-le-suc l)))
 
 module _ (mode : Mode) (kinds : List ℕ) where
-  pub some-pilots : (seg : ℕ) → seg < 13 → getD kinds seg 0 ≡ 0 → true ≡ somePilots mode kinds
+  pub some-pilots : (seg : ℕ) → seg < 13 → kindFrom (getD kinds seg 0) ≡ Coherent → true ≡ somePilots mode kinds
   some-pilots seg h e =
-      let part = coherent-pilots mode kinds 0 seg (omega arith) (rw (eq-eqb (getD kinds seg 0) 0 e)) in
+      let part = coherent-pilots mode kinds 0 seg (omega arith) e in
       let size = ap length part ∙ length-upTo _ (carriersPerSegment mode / 12) in
       let here : 0 < length (segmentPilots mode kinds 0 (getD order (placeOf seg) 0)) =
       rw (segment-of-place seg h) (omega (arith, size, sized mode .carriers-low)) in
       let some = joined-some (segmentPilots mode kinds 0) order (placeOf seg) (place-below seg h) here in
       rw (pilots-by-segment mode kinds 0, ne-eqb (length (joined (segmentPilots mode kinds 0) order)) 0 (λ z. omega arith))
 
-  pub no-pilots : ((seg : ℕ) → seg < 13 → getD kinds seg 0 ≡ 0 → ⊥) → false ≡ somePilots mode kinds
+  pub no-pilots : ((seg : ℕ) → seg < 13 → kindFrom (getD kinds seg 0) ≡ Differential) → false ≡ somePilots mode kinds
   no-pilots h =
       let none : (i : ℕ) → i < length order → segmentPilots mode kinds 0 (getD order i 0) ≡ [] =
-      λ i l. let seg = getD order i 0 in differential-pilots mode kinds 0 seg (rw (ne-eqb (getD kinds seg 0) 0 (h seg (segment-below i l)))) in
+      λ i l. let seg = getD order i 0 in differential-pilots mode kinds 0 seg (h seg (segment-below i l)) in
       rw (pilots-by-segment mode kinds 0, joined-none (segmentPilots mode kinds 0) order none)

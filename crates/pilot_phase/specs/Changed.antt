@@ -33,7 +33,7 @@ use Rattle.prbs.specs.Signs.{bandSigns, pilotAmplitude, pilotValue}
 use Rattle.pilot_phase.specs.declared.PilotPhase.the-variants.{NoScatteredPilots}
 use Rattle.pilot_phase.specs.declared.PhaseAnswer.the-variants.{Detected, Refused}
 use Rattle.pilot_phase.specs.Ballots.{pilots, pilotPairs, timesPilot, pilotProduct, pilotEnergy, productSum, energySum, hasEnergy}
-use Rattle.pilot_phase.specs.Ballots.{phaseMetric, Choice, chooseFrom, choiceOf, Ballot, ballotOf, spectrumAt, ballotAt, ballots}
+use Rattle.pilot_phase.specs.Ballots.{phaseMetric, Choice, chooseFrom, choiceOf, ballotOf, spectrumAt, ballotAt, ballots}
 use Rattle.pilot_phase.specs.PilotPhase.{votes, countsOf, phaseOf, phaseCode, detected, phaseAnswer, noCounts, countsAnswer}
 use Rattle.pilot_phase.specs.Pilots.{Apart, pilots-apart, few-pilots}
 

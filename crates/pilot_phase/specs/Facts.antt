@@ -29,8 +29,8 @@ use Rattle.pilot_phase.specs.declared.PilotPhase.the-variants.{Phase}
 use Rattle.pilot_phase.specs.declared.PhaseAnswer.the-variants.{Detected, Refused}
 use Rattle.pilot_phase.specs.Ballots.{pilots, pilotPairs, Ballot, ballotAt, ballots}
 use Rattle.pilot_phase.specs.PilotPhase.{phaseAt, voteOf, votesFrom, votes, countOf, countsOf, plusCounts, turnedBack}
-use Rattle.pilot_phase.specs.PilotPhase.{better, wonBy, shareOf, phaseOf, larger, largest, others, nextTo}
-use Rattle.pilot_phase.specs.PilotPhase.{phaseCode, detected, phaseAnswer, countsAnswer, phaseNumber}
+use Rattle.pilot_phase.specs.PilotPhase.{better, wonBy, shareOf, phaseOf, larger, largest, others, nextTo, leadOf}
+use Rattle.pilot_phase.specs.PilotPhase.{phaseCode, detected, phaseAnswer, noCounts, countsAnswer, phaseNumber}
 use Rattle.pilot_phase.specs.Pilots.{isPilot, pilots-leave, apart-member}
 
 -- ---- an answer's number is the code
@@ -99,6 +99,20 @@ pub counts-total : (mode : Mode) (kinds : List ℕ) (xs : List Float) → phaseC
     getD counts 0 0 + getD counts 1 0 + getD counts 2 0 + getD counts 3 0 ≡ spectraIn (totalCarriers mode) (length xs)
 unfolding countsAnswer countsOf
 counts-total mode kinds xs accepted some = rw (accepted, some) (votes-total 0 (ballots mode kinds xs) ∙ ballots-length mode kinds xs)
+
+-- without scattered pilots nothing is counted, whatever the number of spectra, and the lead is 0
+pub none-counted : (mode : Mode) (kinds : List ℕ) (xs : List Float) → eqb (length (pilots mode kinds 0)) 0 ≡ true
+    → countsAnswer (Known mode) kinds xs ≡ noCounts
+unfolding countsAnswer
+none-counted mode kinds xs none = rw none (by (eqb (phaseCode (Known mode) kinds (length xs)) 0))
+  where
+    by : (accepted : Bool) → cond accepted noCounts noCounts ≡ noCounts
+    by true = refl
+    by false = refl
+
+pub no-lead : leadOf noCounts ≡ 0
+unfolding leadOf wonBy nextTo
+no-lead = refl
 
 -- ---- ballots one behind another
 pub count-append : (us vs : List ℕ) (v : ℕ) → countOf (us ++ vs) v ≡ countOf us v + countOf vs v
@@ -172,7 +186,7 @@ counts-append bs cs =
 record Wins (counts : List ℕ) (n w : ℕ) : Type 0 where
   phase : w < n
   most : (p : ℕ) → p < n → getD counts p 0 ≤ getD counts w 0
-  largest : (p : ℕ) → p < n → w < p → getD counts p 0 < getD counts w 0
+  ties : (p : ℕ) → p < n → w < p → getD counts p 0 < getD counts w 0
 
 better-wins : (counts : List ℕ) (n w : ℕ) → Wins counts n w → Wins counts (suc n) (better counts w n)
 better-wins counts n w h = by (leb (getD counts w 0) (getD counts n 0)) refl
@@ -182,21 +196,21 @@ better-wins counts n w h = by (leb (getD counts w 0) (getD counts n 0)) refl
         record {
           phase = omega arith;
           most = λ p l. elim (eq-or-lt-of-le (le-of-suc-le-suc l)) [ inl z ↦ rw z (omega arith) | inr g ↦ omega (arith, h .most p g, leb-true) ];
-          largest = λ p l g. omega arith;
+          ties = λ p l g. omega arith;
         }
     by false e =
         let less = leb-false (getD counts w 0) (getD counts n 0) e in
         record {
           phase = omega (arith, h .phase);
           most = λ p l. elim (eq-or-lt-of-le (le-of-suc-le-suc l)) [ inl z ↦ rw z (omega arith) | inr g ↦ h .most p g ];
-          largest = λ p l k. elim (eq-or-lt-of-le (le-of-suc-le-suc l)) [ inl z ↦ rw z less | inr g ↦ h .largest p g k ];
+          ties = λ p l k. elim (eq-or-lt-of-le (le-of-suc-le-suc l)) [ inl z ↦ rw z less | inr g ↦ h .ties p g k ];
         }
 
 wins : (counts : List ℕ) → Wins counts 4 (wonBy counts)
 unfolding wonBy
 wins counts =
     let most : (p : ℕ) → p < 1 → getD counts p 0 ≤ getD counts 0 0 = λ p l. let z : p ≡ 0 = omega arith in rw z (omega arith) in
-    let alone : Wins counts 1 0 = record { phase = omega arith; most = most; largest = λ p l g. omega arith } in
+    let alone : Wins counts 1 0 = record { phase = omega arith; most = most; ties = λ p l g. omega arith } in
     better-wins counts 3 _ (better-wins counts 2 _ (better-wins counts 1 0 alone))
 
 -- it is one of the four and has the most votes; of phases with as many, it is the largest
@@ -207,7 +221,7 @@ pub won-most : (counts : List ℕ) (p : ℕ) → p < 4 → getD counts p 0 ≤ g
 won-most counts = wins counts .most
 
 pub won-larger : (counts : List ℕ) (p : ℕ) → p < 4 → wonBy counts < p → getD counts p 0 < getD counts (wonBy counts) 0
-won-larger counts = wins counts .largest
+won-larger counts = wins counts .ties
 
 -- ---- the next, and so the lead
 -- the larger of two is one of them, and no smaller than either

@@ -2,7 +2,7 @@
 -- its vote for the phase of symbol 0; the phase with the most votes is answered, with its share of them, the four counts and the lead. All this
 -- is a function of the ballots (`Ballots`).
 -- Definitions only.
-use Prim.Native.Nat.{ℕ, zero, suc, _+_, _-_, _%_}
+use Prim.Native.Nat.{ℕ, suc, _+_, _-_, _%_}
 use mathlib.Core.Bool.{cond}
 use mathlib.Core.List.{List, [], _∷_}
 use mathlib.Core.Path.{_≡_}

@@ -1,5 +1,5 @@
 // The scattered-pilot phase (acquire.rs of isdb-rs, `detect_sp_phase`). For every spectrum and phase,
-// products of pilots 12 carriers apart, with their known signs taken off, add up coherently for the
+// products of pilots 12 carriers apart, their known signs multiplied in, add up coherently for the
 // right phase alone. Every spectrum votes.
 ghost use mathlib.Core.Path.{_≡_};
 ghost use Prim.Native.Nat.{_*_, _≤_, _<_};
@@ -15,6 +15,7 @@ use complex::C32;
 use frame::FrameLayout;
 use ofdm::BandCarrier;
 use ofdm::BandPlace;
+use ofdm::Segment;
 use ofdm::SegmentPlace;
 use params::Mode;
 use params::SegmentKind;
@@ -23,7 +24,7 @@ const MINUS_ONE: f32 = -1.0;
 
 pub enum PilotPhase {
     NoScatteredPilots,
-    // The phase of symbol 0, and the share of the votes for it.
+    // The phase of symbol 0, and the share of the votes for it. Symbol j has phase (phase + j) % 4.
     Phase(u8, f32),
 }
 
@@ -49,7 +50,7 @@ pub struct Run {
     pub energy: f32,
 }
 
-// A pilot with its sign taken off, and its squared size.
+// A carrier's pair times its pilot's value, which takes the pilot's sign out of it; and its squared size.
 pub struct Pilot {
     pub value: C32,
     pub square: f64,
@@ -262,13 +263,16 @@ fn nothing(answer: PhaseAnswer) -> PilotAnswer
 fn has_pilots(layout: FrameLayout) -> bool
     ensures { λ r. ⌜ r ≡ somePilots (layout .mode) (layout .kinds) ⌝ }
 {
-    let kinds = layout.kinds;
     let mut seg: usize = 0;
     while seg < 13 {
-        if kinds[seg] == 0 {
-            return true;
+        match layout.kind(Segment(seg)) {
+            SegmentKind::Coherent => {
+                return true;
+            }
+            SegmentKind::Differential => {
+                seg += 1;
+            }
         }
-        seg += 1;
     }
     false
 }

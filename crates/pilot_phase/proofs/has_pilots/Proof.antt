@@ -1,40 +1,51 @@
--- `pilot_phase::has_pilots` meets its contract: no segment passed is coherent, and one that is has pilots.
+-- `pilot_phase::has_pilots` meets its contract: the segments passed are differential, and one that is coherent has pilots.
 -- Assumes nothing.
 use Prim.Native.Nat.{ℕ, _+_, _-_, _≤_, _<_}
 use mathlib.Core.List.{List}
-use mathlib.Core.Path.{_≡_}
+use mathlib.Core.Path.{_≡_, sym, _∙_}
 use native.Mathlib.Decide.{decLt}
 use native.Mathlib.Omega.{arith}
+use borrow.Author.Needs.{needs}
 use lib.ListN.{getD}
+use Rattle.params.specs.declared.SegmentKind.the-variants.{Differential}
+use Rattle.params.specs.Params.{kindFrom}
 use Rattle.pilot_phase.proofs.BySegment.{some-pilots, no-pilots}
 use Rattle.pilot_phase.proofs.has_pilots.Statement.{statement}
 use Rattle.pilot_phase.proofs.has_pilots.Tie as tie
 
--- none of the first n kinds is 0
+-- the segments below n are differential
 abbrev Passed : List ℕ → ℕ → Type 0
-Passed kinds n = (i : ℕ) → i < n → getD kinds i 0 ≡ 0 → ⊥
+Passed kinds n = (i : ℕ) → i < n → kindFrom (getD kinds i 0) ≡ Differential
 
-one-more : (kinds : List ℕ) (n m : ℕ) → Passed kinds n → (getD kinds n 0 ≡ 0 → ⊥) → m ≤ n + 1 → Passed kinds m
-one-more kinds n m h g l i k e = by (decLt i n)
+passed-more : (kinds : List ℕ) (n : ℕ) → Passed kinds n → kindFrom (getD kinds n 0) ≡ Differential → Passed kinds (n + 1)
+passed-more kinds n h g i l = by (decLt i n)
   where
-    by : Dec (i < n) → ⊥
-    by (yes o) = h i o e
-    by (no o) = let z : i ≡ n = omega arith in g (rw z at e)
+    by : Dec (i < n) → kindFrom (getD kinds i 0) ≡ Differential
+    by (yes o) = h i o
+    by (no o) = let z : i ≡ n = omega arith in rw z g
 
 abbrev Inv-loop : tie.InvT-loop
-Inv-loop kinds seg₀ seg = (seg ≤ 13) × Passed kinds seg
+Inv-loop layout seg₀ seg = (seg ≤ 13) × Passed (layout .kinds) seg
 
 abbrev μ-loop : tie.MeasureT-loop
-μ-loop kinds seg₀ seg = 13 - seg
+μ-loop layout seg₀ seg = 13 - seg
 
 loop-holds : tie.Need-loop-holds Inv-loop μ-loop
 loop-holds c = (omega arith, λ i h. absurd (omega arith))
 
-array-read-if1 : tie.Need-array-read-if1 Inv-loop μ-loop
-array-read-if1 c = omega arith
+kind-requires : tie.Need-kind-requires Inv-loop μ-loop
+kind-requires c κs = search needs
+
+enum-told : tie.Need-enum-told Inv-loop μ-loop
+enum-told c = search needs
 
 returns : tie.Need-returns Inv-loop μ-loop
-returns c = some-pilots _ _ _ (c .before .loop-test .taken) (c .if1 .taken)
+returns c =
+    let k = c .before .before in
+    some-pilots _ _ _ (k .before .loop-test .taken) (sym (k .kind .ensures) ∙ c .enum-told .given .1)
+
+enum-told-2 : tie.Need-enum-told-2 Inv-loop μ-loop
+enum-told-2 c = search needs
 
 add-seg : tie.Need-add-seg Inv-loop μ-loop
 add-seg c = omega arith
@@ -44,8 +55,9 @@ loop-less c = omega arith
 
 loop-again : tie.Need-loop-again Inv-loop μ-loop
 loop-again c =
-    let l = c .before .before in
-    (omega arith, one-more (l .before .before .args .layout .kinds) _ _ (l .loop .inv .1) (c .if1 .left) (omega arith))
+    let k = c .before .before in
+    let l = k .before .before in
+    (omega arith, passed-more (l .before .args .layout .kinds) _ (l .loop .inv .1) (sym (k .kind .ensures) ∙ c .enum-told2 .given .1))
 
 returns-2 : tie.Need-returns-2 Inv-loop μ-loop
 returns-2 c = no-pilots _ _ (λ i h. c .before .loop .inv .1 i (omega arith))
@@ -57,8 +69,10 @@ has-pilots-spec =
     Inv-loop
     μ-loop
     loop-holds
-    array-read-if1
+    kind-requires
+    enum-told
     returns
+    enum-told-2
     add-seg
     loop-less
     loop-again

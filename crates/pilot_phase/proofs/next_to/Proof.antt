@@ -1,6 +1,6 @@
 -- `pilot_phase::next_to` meets its contract: the most so far, and the phases ahead, come to the largest of the others.
 -- Assumes nothing.
-use Prim.Native.Nat.{_-_}
+use Prim.Native.Nat.{_-_, _<_}
 use mathlib.Core.Logic.{⊎-elim}
 use native.Mathlib.Omega.{arith}
 use Rattle.pilot_phase.proofs.Most.{Most, most-begin, most-same, most-less, most-more, most-done}
@@ -37,13 +37,13 @@ loop-less c = omega arith
 loop-again : tie.Need-loop-again Inv-loop μ-loop
 loop-again c =
     let m = c .before .before .loop .inv in
-    let h = c .before .loop-test .taken in
+    let h : c .before .before .loop .q < 4 = omega arith in
     ⊎-elim (λ w. rw (w .2) (most-more m h (w .0 .taken) (w .1 .taken)))
     (⊎-elim (λ w. rw (w .2) (most-less m h (w .0 .taken) (w .1 .left))) (λ w. rw (w .1) (most-same m h (w .0 .left))))
     (c .if1 .came)
 
 returns : tie.Need-returns Inv-loop μ-loop
-returns c = most-done (c .before .loop .inv) (c .loop-test .left)
+returns c = most-done (c .before .loop .inv) (omega arith)
 
 pub next-to-spec : {M : Type 1} → statement M
 next-to-spec =

@@ -38,7 +38,7 @@ loop-again : tie.Need-loop-again Inv-loop μ-loop
 loop-again c =
     let b = c .before .before .loop .inv in
     let h = c .before .loop-test .taken in
-    ⊎-elim (λ w. rw (w .1) (best-new b h (w .0 .taken))) (λ w. rw (w .1) (best-same b h (w .0 .left))) (c .if1 .came)
+    ⊎-elim (λ w. rw (w .1) (best-new b h (omega (arith, w .0 .taken)))) (λ w. rw (w .1) (best-same b h (omega (arith, w .0 .left)))) (c .if1 .came)
 
 returns : tie.Need-returns Inv-loop μ-loop
 returns c = best-done (c .before .loop .inv) (c .loop-test .left)
