@@ -342,15 +342,15 @@ fn slope_sum(
     ensures { λ r. ⌜ of32 r ≡ slopeSum (times .mean) (of32 middle) (pointsIn win (now (spectra .entry)) k inverse (spectraOf (times .sent))) ⌝ }
 {
     let sent = times.sent;
-    let mut sum = C32::new(0.0, 0.0);
+    let mut slope = C32::new(0.0, 0.0);
     let mut i: usize = 0;
     while i < sent.count {
         let s = sent.spectrum(i);
         let v = value_in(win, spectra, k, s, inverse).sub(middle);
-        sum = sum.add(v.scale(offset(win, s) - times.mean));
+        slope = slope.add(v.scale(offset(win, s) - times.mean));
         i += 1;
     }
-    sum
+    slope
 }
 
 // The least-squares line through a carrier's values at the current symbol. A single value is taken as it
@@ -464,7 +464,8 @@ fn refusal(mode: Mode, floats: usize, current: Current, n: usize) -> u8
     if code != 0 {
         return code;
     }
-    if current.index >= floats / (2 * k) {
+    let count = floats / (2 * k);
+    if current.index >= count {
         return 4;
     }
     if current.w > 64 {
