@@ -157,6 +157,10 @@ same-written m kinds xs current old other i h l a s = by (isScattered m kinds i)
     by false e g = closing-written m kinds xs current old i h a e g ∙ sym (closing-written m kinds xs current other i h b e g)
 
 -- ---- the points are the standard's pilots
+-- where spectrum 0 has phase p, and the current one is handed over with (p + index) mod 4, spectrum s has (p + s) mod 4
+pub handed-over : (p index w s : ℕ) → phaseIn (record { phase = (p + index) % 4; index = index; w = w }) s ≡ (p + s) % 4
+handed-over p index w s = omega arith
+
 segment-in : (kinds : List ℕ) (place : ℕ) → place < 13 → segmentIn (wide kinds) place ≡ wideSegment kinds (segmentAt place)
 segment-in kinds place h = agree (segmentIn (wide kinds)) (λ p. wideSegment kinds (segmentAt p)) 13 refl place h
 
