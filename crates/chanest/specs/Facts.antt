@@ -197,7 +197,8 @@ module _ (m : Mode) (kinds : List ℕ) (i : ℕ) where
       let kind : segment .kind ≡ Coherent = rw (both-right (ltb (i / segmentPoints m) 13) _ s) in
       segment-byte (i % 4) (inside m i within) ∙ ap roleByte (sp-role m segment (i % 4) _ kind (in-phase m i))
 
-  -- and so it is one in every spectrum that its estimate reads: in each that the window has at its offsets, at that symbol's own phase
+  -- and so it is one in every spectrum s that its estimate, `scatteredAt`, reads: in each that `inWindow` gives for its offsets, s being a symbol
+  -- of its own phase
   pub scattered-sent : isScattered m kinds i ≡ true → (win : Window) → win .current .phase < 4
       → (s : ℕ) → List·Memᴰ s (inWindow win (scatteredOffsets (win .current) (backOf (win .current) i)))
       → getD (bandRoles m (phaseIn (win .current) s) (wide kinds)) (carrierOf i .0) 0 ≡ roleByte Sp
