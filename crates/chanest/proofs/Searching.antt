@@ -102,29 +102,18 @@ module _ (win : Window) (o : Offsets) (h : Searchable win o) where
 
 -- ---- the offsets of an accepted call can be looked for
 module _ (win : Window) (h : Usable win) where
+  searchable : (o : Offsets) → 0 < o .step → o .step ≤ 4 → o .before ≤ 512 → o .count ≤ 512 → Searchable win o
+  searchable o f n e c = record { current = h .current; few = h .few; forward = f; near = n; early = e; short = c }
+
   pub scattered-searchable : {back : ℕ} {o : Offsets} → back < 4 → o ≡ scatteredOffsets (win .current) back → Searchable win o
-  scattered-searchable l e =
-      rw e
-      (record {
-        current = h .current;
-        few = h .few;
-        forward = omega arith;
-        near = omega arith;
-        early = omega (arith, h .counted .short);
-        short = omega (arith, h .counted .short);
-      })
+  scattered-searchable {back} l e =
+      let most = h .counted .short in
+      rw e (searchable (scatteredOffsets (win .current) back) (omega arith) (omega arith) (omega arith) (omega arith))
 
   pub continual-searchable : {o : Offsets} → o ≡ continualOffsets (win .current) → Searchable win o
   continual-searchable e =
-      rw e
-      (record {
-        current = h .current;
-        few = h .few;
-        forward = omega arith;
-        near = omega arith;
-        early = omega (arith, h .counted .short);
-        short = omega (arith, h .counted .short);
-      })
+      let most = h .counted .short in
+      rw e (searchable (continualOffsets (win .current)) (omega arith) (omega arith) (omega arith) (omega arith))
 
 -- ---- spectra of a window lie within any larger one
 pub inside-larger : (m n : ℕ) (s : Sent) → m ≤ n → Inside m s → Inside n s

@@ -157,6 +157,10 @@ same-written m kinds xs current old other i h l a s = by (isScattered m kinds i)
     by false e g = closing-written m kinds xs current old i h a e g ∙ sym (closing-written m kinds xs current other i h b e g)
 
 -- ---- the points are the standard's pilots
+-- where spectrum 0 has phase p, and the current one is handed over with (p + index) mod 4, spectrum s has (p + s) mod 4
+pub handed-over : (p index w s : ℕ) → phaseIn (record { phase = (p + index) % 4; index = index; w = w }) s ≡ (p + s) % 4
+handed-over p index w s = omega arith
+
 segment-in : (kinds : List ℕ) (place : ℕ) → place < 13 → segmentIn (wide kinds) place ≡ wideSegment kinds (segmentAt place)
 segment-in kinds place h = agree (segmentIn (wide kinds)) (λ p. wideSegment kinds (segmentAt p)) 13 refl place h
 
@@ -193,7 +197,8 @@ module _ (m : Mode) (kinds : List ℕ) (i : ℕ) where
       let kind : segment .kind ≡ Coherent = rw (both-right (ltb (i / segmentPoints m) 13) _ s) in
       segment-byte (i % 4) (inside m i within) ∙ ap roleByte (sp-role m segment (i % 4) _ kind (in-phase m i))
 
-  -- and so it is one in every spectrum that its estimate reads: in each that the window has at its offsets, at that symbol's own phase
+  -- and so it is one in every spectrum s that its estimate, `scatteredAt`, reads: in each that `inWindow` gives for its offsets, s being a symbol
+  -- of its own phase
   pub scattered-sent : isScattered m kinds i ≡ true → (win : Window) → win .current .phase < 4
       → (s : ℕ) → List·Memᴰ s (inWindow win (scatteredOffsets (win .current) (backOf (win .current) i)))
       → getD (bandRoles m (phaseIn (win .current) s) (wide kinds)) (carrierOf i .0) 0 ≡ roleByte Sp

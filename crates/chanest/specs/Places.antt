@@ -2,7 +2,7 @@
 -- number says of its place and of its carrier's place in the segment.
 -- Assumes nothing.
 use Prim.Native.Nat.{ℕ, _+_, _-_, _*_, _/_, _%_, _≤_, _<_}
-use mathlib.Core.Path.{_≡_, refl, ap, _∙_}
+use mathlib.Core.Path.{_≡_, refl, sym, ap, _∙_}
 use native.Mathlib.Nat.{mul-left-comm, mul-le-mul-right, div-add-mod', mod-lt}
 use native.Mathlib.Decide.{decLt}
 use native.Mathlib.Omega.{arith}
@@ -11,7 +11,7 @@ use Rattle.params.specs.declared.Mode.{Mode}
 use Rattle.params.specs.declared.Mode.the-variants.{M1, M2, M3}
 use Rattle.params.specs.Params.{carriersPerSegment}
 use Rattle.params.specs.Laws.{sized}
-use Rattle.chanest.specs.Grid.{segmentPoints, gridPoints}
+use Rattle.chanest.specs.Grid.{carrierOf, segmentPoints, gridPoints}
 
 -- thirteen segments' points, the edge, and one that is never written
 pub record Pointed (m : Mode) : Type 0 where
@@ -23,6 +23,10 @@ pub pointed : (m : Mode) → Pointed m
 pointed M1 = record { carriers = refl; in-fours = refl; all = refl }
 pointed M2 = record { carriers = refl; in-fours = refl; all = refl }
 pointed M3 = record { carriers = refl; in-fours = refl; all = refl }
+
+-- the lowest point of a place has the carrier at which the place starts
+pub starts : (m : Mode) (place : ℕ) → carrierOf (place * segmentPoints m) .0 ≡ place * carriersPerSegment m
+starts m place = mul-left-comm 3 place (segmentPoints m) ∙ ap (λ (c : ℕ). place * c) (sym (pointed m .carriers))
 
 module _ (m : Mode) (i : ℕ) where
   abbrev n : ℕ

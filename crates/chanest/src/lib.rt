@@ -122,7 +122,7 @@ impl Current {
     }
 
     // The offsets of a scattered pilot that was sent last `back` symbols ago.
-    fn scattered(self, back: usize) -> Offsets
+    fn scattered_offsets(self, back: usize) -> Offsets
         requires { ⌜ Counted self × (back < 4) ⌝ }
         ensures { λ r. ⌜ r ≡ scatteredOffsets self back ⌝ }
     {
@@ -134,7 +134,7 @@ impl Current {
     }
 
     // The offsets of a continual pilot.
-    fn continual(self) -> Offsets
+    fn continual_offsets(self) -> Offsets
         requires { ⌜ Counted self ⌝ }
         ensures { λ r. ⌜ r ≡ continualOffsets self ⌝ }
     {
@@ -147,27 +147,27 @@ impl Current {
 }
 
 // The spectra of a window at the offsets.
-fn sent_in(win: Window, at: Offsets) -> Sent
-    requires { ⌜ Searchable win at ⌝ }
-    ensures { λ r. ⌜ Reached win at r ⌝ }
+fn sent_in(win: Window, offsets: Offsets) -> Sent
+    requires { ⌜ Searchable win offsets ⌝ }
+    ensures { λ r. ⌜ Reached win offsets r ⌝ }
 {
     let current = win.current;
     let t = current.index;
-    let step = at.step;
-    let skipped = if at.before <= t {
+    let step = offsets.step;
+    let skipped = if offsets.before <= t {
         0
     } else {
-        (at.before - t + step - 1) / step
+        (offsets.before - t + step - 1) / step
     };
-    let first = t + step * skipped - at.before;
-    if at.count <= skipped || win.count <= first {
+    let first = t + step * skipped - offsets.before;
+    if offsets.count <= skipped || win.count <= first {
         return Sent {
             first: 0,
             step: step,
             count: 0,
         };
     }
-    let left = at.count - skipped;
+    let left = offsets.count - skipped;
     let room = (win.count - 1 - first) / step + 1;
     Sent {
         first: first,
@@ -225,11 +225,11 @@ fn spread_about(win: Window, sent: Sent, mean: f32) -> f32
 }
 
 // The times of a carrier whose pilot is sent at the offsets.
-fn times_at(win: Window, at: Offsets) -> Times
-    requires { ⌜ Searchable win at ⌝ }
-    ensures { λ r. ⌜ TimesOf win at r ⌝ }
+fn times_at(win: Window, offsets: Offsets) -> Times
+    requires { ⌜ Searchable win offsets ⌝ }
+    ensures { λ r. ⌜ TimesOf win offsets r ⌝ }
 {
-    let sent = sent_in(win, at);
+    let sent = sent_in(win, offsets);
     let mean = mean_offset(win, sent);
     let spread = spread_about(win, sent, mean);
     Times { sent, mean, spread }
@@ -241,10 +241,10 @@ fn scattered_times(win: Window) -> Scattered
     ensures { λ r. ⌜ ScatteredTimes win r ⌝ }
 {
     let current = win.current;
-    let ago0 = times_at(win, current.scattered(0));
-    let ago1 = times_at(win, current.scattered(1));
-    let ago2 = times_at(win, current.scattered(2));
-    let ago3 = times_at(win, current.scattered(3));
+    let ago0 = times_at(win, current.scattered_offsets(0));
+    let ago1 = times_at(win, current.scattered_offsets(1));
+    let ago2 = times_at(win, current.scattered_offsets(2));
+    let ago3 = times_at(win, current.scattered_offsets(3));
     Scattered {
         ago0,
         ago1,
@@ -279,7 +279,7 @@ fn planned(mode: Mode, win: Window) -> Plan
 {
     let current = win.current;
     let scattered = scattered_times(win);
-    let continual = times_at(win, current.continual());
+    let continual = times_at(win, current.continual_offsets());
     Plan {
         mode,
         win,
@@ -342,15 +342,15 @@ fn slope_sum(
     ensures { λ r. ⌜ of32 r ≡ slopeSum (times .mean) (of32 middle) (pointsIn win (now (spectra .entry)) k inverse (spectraOf (times .sent))) ⌝ }
 {
     let sent = times.sent;
-    let mut sum = C32::new(0.0, 0.0);
+    let mut slope = C32::new(0.0, 0.0);
     let mut i: usize = 0;
     while i < sent.count {
         let s = sent.spectrum(i);
         let v = value_in(win, spectra, k, s, inverse).sub(middle);
-        sum = sum.add(v.scale(offset(win, s) - times.mean));
+        slope = slope.add(v.scale(offset(win, s) - times.mean));
         i += 1;
     }
-    sum
+    slope
 }
 
 // The least-squares line through a carrier's values at the current symbol. A single value is taken as it
@@ -464,7 +464,8 @@ fn refusal(mode: Mode, floats: usize, current: Current, n: usize) -> u8
     if code != 0 {
         return code;
     }
-    if current.index >= floats / (2 * k) {
+    let count = floats / (2 * k);
+    if current.index >= count {
         return 4;
     }
     if current.w > 64 {

@@ -22,11 +22,11 @@ returns-2 c =
     let f = r .before in
     by-spectra _ _ _ _ _ (f .before .before .total-carriers .ensures) (f .if1 .left) _ (r .refusal .ensures) (c .if2 .taken)
 
-mul-if3 : tie.Need-mul-if3
-mul-if3 c = omega (arith, sized (c .before .before .before .before .before .args .mode) .band-high)
+mul-count : tie.Need-mul-count
+mul-count c = omega (arith, sized (c .before .before .before .before .before .args .mode) .band-high)
 
-div-if3 : tie.Need-div-if3
-div-if3 c = omega (arith, sized (c .before .before .before .before .before .args .mode) .band)
+div-count : tie.Need-div-count
+div-count c = omega (arith, sized (c .before .before .before .before .before .args .mode) .band)
 
 returns-3 : tie.Need-returns-3
 returns-3 c =
@@ -76,8 +76,8 @@ refusal-spec =
     returns
     refusal-requires
     returns-2
-    mul-if3
-    div-if3
+    mul-count
+    div-count
     returns-3
     returns-4
     add-if5

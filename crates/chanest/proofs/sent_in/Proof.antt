@@ -22,7 +22,7 @@ sub-skipped-2 c = search needs
 div-skipped : tie.Need-div-skipped
 div-skipped c = search needs
 
-skips : (c : lts.Joined1 reads.Pre reads.Post) → let a = c .before .before .args in Skipped (a .win) (a .at) (c .if1 .skipped)
+skips : (c : lts.Joined1 reads.Pre reads.Post) → let a = c .before .before .args in Skipped (a .win) (a .offsets) (c .if1 .skipped)
 skips c =
     ⊎-elim
     (λ w. rw (w .1) (skip-none _ _ (w .0 .taken)))
