@@ -2,14 +2,13 @@
 -- Assumes nothing.
 use Prim.Native.Nat.{ℕ, _≤_}
 use mathlib.Core.Bool.{Bool, true, false, cond}
-use mathlib.Core.Path.{_≡_, refl, sym, ap, subst, _∙_}
+use mathlib.Core.Path.{_≡_, refl, ap, subst}
 use native.Mathlib.Omega.{arith}
 use borrow.Author.Tests.{ltb-true, ne-eqb}
 use lib.Dec.{T, eqb}
 use lib.IntN.{ℤ, pos, negsuc, natAbs}
 use lib.Signed.{ltZ, nonNeg}
 use Rattle.libc.specs.Io.{Moved}
-use Rattle.segments.specs.declared.Input.{Input}
 use Rattle.segments.specs.declared.Input.the-variants.{More, Ended, Failed}
 use Rattle.segments.specs.Read.{readTold}
 

@@ -1,5 +1,7 @@
 // The program `segments`: reads questions from standard input, a line each, and prints the segment
 // list of each. What is printed for which input is segment_list's; here are the reads and writes.
+// It does what `segment_list::answer_all` does, with input that comes in turns: what the turns print
+// and the last line's answer are `segmentsPrints` of all that was read (`turns-print`).
 //
 // Answers are written when the buffer is full and whenever what was read is used up, so that a
 // question typed at a terminal is answered at once. A read or a write that fails ends the program:

@@ -48,10 +48,11 @@ loop-again c =
     let f = c .before .before .before .before .before .before in
     let l = f .before .before .before in
     let fed = f .feed .ensures in
-    let on = fed .progress (omega arith) (f .before .before .loop-test .taken) in
-    (omega arith,
-    fed .within (omega arith),
-    leaves-slice (l .before .before .before .args .bytes .now) (l .loop .from) (f .feed .result .used) (omega arith) (l .loop .inv .2) (fed .takes .leaves))
+    let on = fed .progress (omega arith) (f .before .before .loop-test .taken) in (
+      omega arith,
+      fed .within (omega arith),
+      leaves-slice (l .before .before .before .args .bytes .now) (l .loop .from) (f .feed .result .used) (omega arith) (l .loop .inv .2) (fed .takes .leaves),
+    )
 
 same-length-2 : tie.Need-same-length-2 Inv-loop μ-loop
 same-length-2 c = c .before .loop .inv .0

@@ -1,7 +1,6 @@
 -- `segments::told` meets its contract: the tests are on the number that the machine reads back from the bits.
 -- Assumes nothing.
-use mathlib.Core.Path.{_≡_, sym, ap, _∙_}
-use lib.IntN.{ℤ, pos}
+use mathlib.Core.Path.{sym, ap, _∙_}
 use mir.Facts.{toZ-ofZ, fits-natAbs, sfits-toZ, fits-ofZ}
 use mir.Syntax.{w64}
 use mir.Val.{toZ, ofZ}
