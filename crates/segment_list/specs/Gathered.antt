@@ -9,7 +9,7 @@ use native.Mathlib.Numerals.{add-one}
 use borrow.Author.Tests.{eq-eqb, ne-eqb, eqb-true, eqb-false, ltb-true, ltb-false}
 use lib.Dec.{eqb, ltb}
 use lib.ListN.{length, take, set, length-set, length-append, length-take}
-use lib.Seq.{take-all, take-append-le, take-take, take-suc-set}
+use lib.Seq.{take-all, take-append-le, take-suc-set}
 use Rattle.segment_list.specs.declared.Line.{Line}
 use Rattle.segment_list.specs.Text.{lineAnswer, lastAnswer}
 use Rattle.segment_list.specs.Laws.{other-length}
@@ -35,7 +35,7 @@ gathers-own line size = by (ltb (line .len) 18) refl
         let many = ltb-false (line .len) 18 e in
         let same : heldText line ≡ line .bytes ++ (0 ∷ []) = take-all (line .len) (line .bytes ++ (0 ∷ [])) (omega (arith, whole)) in
         let kept : take 17 (line .bytes ++ (0 ∷ [])) ≡ line .bytes =
-          take-append-le 17 (line .bytes) (0 ∷ []) (omega arith) ∙ take-all 17 (line .bytes) (omega arith) in
+        take-append-le 17 (line .bytes) (0 ∷ []) (omega arith) ∙ take-all 17 (line .bytes) (omega arith) in
         rw same record { size = size; count = omega (arith, whole); held = take-all (line .len) (line .bytes) (omega arith) ∙ sym kept }
 
 module _ (line : Line) (s : List ℕ) (g : Gathers line s) where

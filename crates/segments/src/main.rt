@@ -1,5 +1,7 @@
 // The program `segments`: reads questions from standard input, a line each, and prints the segment
 // list of each. What is printed for which input is segment_list's; here are the reads and writes.
+// It does what `segment_list::answer_all` does, with input that comes in turns: what the turns print
+// and the last line's answer are `segmentsPrints` of all that was read (`turns-print`).
 //
 // Answers are written when the buffer is full and whenever what was read is used up, so that a
 // question typed at a terminal is answered at once. A read or a write that fails ends the program:
@@ -9,17 +11,32 @@ ghost use Prim.Native.Nat.{_≤_};
 ghost use lib.ListN.{length};
 ghost use Rattle.segment_list.specs.Feed.{Leaves};
 ghost use Rattle.segments.specs.declared.Input.the-variants.{More};
+ghost use Rattle.segments.specs.Read.{readTold};
 use libc::STDIN_FILENO;
 use libc::STDOUT_FILENO;
 use segment_list::Line;
 
-// How it stands with the input after a turn.
+// How it stands with the input: so many bytes were read, it has ended, or a read or a write failed.
 enum Input {
-    More,
+    More(usize),
     Ended,
     Failed,
 }
 
+// What a read returned says of the input.
+fn told(got: isize) -> Input
+    ensures { λ r. ⌜ r ≡ readTold got ⌝ }
+{
+    if got < 0 {
+        return Input::Failed;
+    }
+    if got == 0 {
+        return Input::Ended;
+    }
+    Input::More(got as usize)
+}
+
+// What a turn leaves: how it stands with the input, and the line that is open.
 struct Turn {
     input: Input,
     line: Line,
@@ -29,7 +46,7 @@ struct Turn {
 // after them.
 fn answer(line: Line, bytes: &[u8], out: &mut [u8]) -> Turn
     requires { ⌜ 512 ≤ length (now out) ⌝ }
-    ensures { λ r. ⌜ (r .input ≡ More → Leaves line (now (bytes .entry)) (r .line)) ⌝ }
+    ensures { λ r. ⌜ (r .input ≡ More (length (now (bytes .entry))) → Leaves line (now (bytes .entry)) (r .line)) ⌝ }
 {
     let mut held = line;
     let mut from: usize = 0;
@@ -46,7 +63,7 @@ fn answer(line: Line, bytes: &[u8], out: &mut [u8]) -> Turn
         }
     }
     Turn {
-        input: Input::More,
+        input: Input::More(from),
         line: held,
     }
 }
@@ -55,20 +72,13 @@ fn answer(line: Line, bytes: &[u8], out: &mut [u8]) -> Turn
 fn read_once(line: Line, buffer: &mut [u8], out: &mut [u8]) -> Turn
     requires { ⌜ 512 ≤ length (now out) ⌝ }
 {
-    let got = libc::read(STDIN_FILENO, buffer);
-    if got < 0 {
+    let input = told(libc::read(STDIN_FILENO, buffer));
+    let Input::More(n) = input else {
         return Turn {
-            input: Input::Failed,
+            input: input,
             line: line,
         };
-    }
-    if got == 0 {
-        return Turn {
-            input: Input::Ended,
-            line: line,
-        };
-    }
-    let n = io::count(got, buffer);
+    };
     answer(line, &buffer[..n], out)
 }
 
@@ -92,7 +102,7 @@ fn run(buffer: &mut [u8], out: &mut [u8])
         line = t.line;
         let input = t.input;
         match input {
-            Input::More => {}
+            Input::More(_) => {}
             Input::Ended => {
                 answer_last(line, out);
                 return;

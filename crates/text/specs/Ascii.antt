@@ -1,7 +1,7 @@
 -- Text written as a quoted text of ASCII, for examples.
 -- Assumes nothing.
 use Prim.Native.Nat.{ℕ}
-use Prim.Native.Char.{Char, code}
+use Prim.Native.Char.{code}
 use Prim.Native.String.{String, [], _∷_}
 use mathlib.Core.List.{List, [] as none, _∷_ as _then_}
 

@@ -1,6 +1,5 @@
 -- `segment_list::answer_line` meets its contract: 17 bytes are answered, and a line of another length is refused.
 -- Assumes nothing.
-use native.Mathlib.Omega.{arith}
 use borrow.Author.Tests.{eq-eqb, ne-eqb}
 use Rattle.segment_list.specs.Gather.{heldAnswer}
 use Rattle.text.specs.Laws.{put-as}

@@ -77,13 +77,14 @@ loop-again c =
     let l = f .before .before .before in
     let fed = f .feed .ensures in
     let on = fed .progress (omega arith) (f .before .before .loop-test .taken) in
-    let whole = cut-whole (rw (c .before .before .next .given .1) at (p .put-cut .ensures)) in
-    (omega arith,
-    omega arith,
-    fed .within (omega arith),
-    omega (arith, whole .1),
-    takes-slice (l .before .before .before .before .before .args .input .now) (l .loop .from) (f .feed .result .used) (omega arith) (l .loop .inv .4)
-    (takes-copied (fed .takes) (fed .room (omega arith)) (whole .0)))
+    let whole = cut-whole (rw (c .before .before .next .given .1) at (p .put-cut .ensures)) in (
+      omega arith,
+      omega arith,
+      fed .within (omega arith),
+      omega (arith, whole .1),
+      takes-slice (l .before .before .before .before .before .args .input .now) (l .loop .from) (f .feed .result .used) (omega arith) (l .loop .inv .4)
+          (takes-copied (fed .takes) (fed .room (omega arith)) (whole .0)),
+    )
 
 finish-requires : tie.Need-finish-requires Inv-loop μ-loop
 finish-requires c κs = omega arith

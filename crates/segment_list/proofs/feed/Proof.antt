@@ -19,15 +19,16 @@ abbrev μ-loop : tie.MeasureT-loop
 
 loop-holds : tie.Need-loop-holds Inv-loop μ-loop
 loop-holds c =
-    let start = c .before .before in
-    (refl,
-    record {
-      takes = takes-start (start .args .input .now) (start .args .from) _ _ _;
-      onward = omega arith;
-      within = omega arith;
-      room = omega arith;
-      moved = inr refl;
-    })
+    let start = c .before .before in (
+      refl,
+      record {
+        takes = takes-start (start .args .input .now) (start .args .from) _ _ _;
+        onward = omega arith;
+        within = omega arith;
+        room = omega arith;
+        moved = inr refl;
+      },
+    )
 
 has-room-requires : tie.Need-has-room-requires Inv-loop μ-loop
 has-room-requires c κs = search needs
@@ -58,15 +59,16 @@ loop-again c =
     let t = c .before .before .before in
     let i = t .before .before .before in
     let l = i .before .before .before in
-    let room = leb-true (l .loop .to + 512) (length (l .loop .out)) (sym (i .before .has-room .ensures) ∙ not-false _ (i .if1 .left)) in
-    (omega arith,
-    record {
-      takes = takes-more _ _ _ (l .loop .inv .1 .onward) (i .before .before .loop-test .taken) (l .loop .inv .1 .takes) (t .take-byte .ensures .0);
-      onward = omega (arith, l .loop .inv .1 .onward);
-      within = omega arith;
-      room = omega (arith, t .take-byte .ensures .1, room);
-      moved = inl (omega (arith, l .loop .inv .1 .onward));
-    })
+    let room = leb-true (l .loop .to + 512) (length (l .loop .out)) (sym (i .before .has-room .ensures) ∙ not-false _ (i .if1 .left)) in (
+      omega arith,
+      record {
+        takes = takes-more _ _ _ (l .loop .inv .1 .onward) (i .before .before .loop-test .taken) (l .loop .inv .1 .takes) (t .take-byte .ensures .0);
+        onward = omega (arith, l .loop .inv .1 .onward);
+        within = omega arith;
+        room = omega (arith, t .take-byte .ensures .1, room);
+        moved = inl (omega (arith, l .loop .inv .1 .onward));
+      },
+    )
 
 same-length-2 : tie.Need-same-length-2 Inv-loop μ-loop
 same-length-2 c = c .before .loop .inv .0

@@ -1,5 +1,6 @@
 -- `segment_list::finish` meets its contract: an open line of no bytes is no line.
 -- Assumes nothing.
+use mathlib.Core.Path.{_≡_}
 use native.Mathlib.Omega.{arith}
 use borrow.Author.Tests.{eq-eqb, ne-eqb}
 use Rattle.segment_list.specs.Gather.{heldLast}
@@ -10,7 +11,9 @@ use Rattle.segment_list.proofs.finish.Tie as tie
 
 returns : tie.Need-returns
 unfolding heldLast
-returns c = (put-as (rw (eq-eqb _ _ (c .if1 .taken))) (put-none _ _), omega arith)
+returns c =
+    let none : c .before .before .before .args .line .len ≡ 0 = omega arith in
+    (put-as (rw (eq-eqb _ _ none)) (put-none _ _), omega arith)
 
 answer-line-requires : tie.Need-answer-line-requires
 answer-line-requires c κs = search needs

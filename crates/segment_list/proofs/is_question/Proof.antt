@@ -42,11 +42,12 @@ unfolding isQuestion
 returns-4 c =
     let k = c .before .before .before in
     let d = k .before .before in
-    simp
-    (eq-eqb _ _ (d .before .before .before .if1 .left),
-    sym (d .before .is-between .ensures) ∙ not-false _ (d .if2 .left),
-    eq-eqb _ _ (k .if3 .left),
-    sym (c .before .is-between2 .ensures) ∙ not-true _ (c .if4 .taken))
+    simp (
+      eq-eqb _ _ (d .before .before .before .if1 .left),
+      sym (d .before .is-between .ensures) ∙ not-false _ (d .if2 .left),
+      eq-eqb _ _ (k .if3 .left),
+      sym (c .before .is-between2 .ensures) ∙ not-true _ (c .if4 .taken),
+    )
 
 shared-slice-read-if5 : tie.Need-shared-slice-read-if5
 shared-slice-read-if5 c = search needs
@@ -57,12 +58,13 @@ returns-5 c =
     let e = c .before .before in
     let k = e .before .before .before in
     let d = k .before .before in
-    simp
-    (eq-eqb _ _ (d .before .before .before .if1 .left),
-    sym (d .before .is-between .ensures) ∙ not-false _ (d .if2 .left),
-    eq-eqb _ _ (k .if3 .left),
-    sym (e .before .is-between2 .ensures) ∙ not-false _ (e .if4 .left),
-    ne-eqb _ _ (c .if5 .taken))
+    simp (
+      eq-eqb _ _ (d .before .before .before .if1 .left),
+      sym (d .before .is-between .ensures) ∙ not-false _ (d .if2 .left),
+      eq-eqb _ _ (k .if3 .left),
+      sym (e .before .is-between2 .ensures) ∙ not-false _ (e .if4 .left),
+      ne-eqb _ _ (c .if5 .taken),
+    )
 
 are-kind-letters-requires : tie.Need-are-kind-letters-requires
 are-kind-letters-requires c κs = search needs
@@ -73,12 +75,13 @@ returns-6 c =
     let e = c .before .before .before in
     let k = e .before .before .before in
     let d = k .before .before in
-    simp
-    (eq-eqb _ _ (d .before .before .before .if1 .left),
-    sym (d .before .is-between .ensures) ∙ not-false _ (d .if2 .left),
-    eq-eqb _ _ (k .if3 .left),
-    sym (e .before .is-between2 .ensures) ∙ not-false _ (e .if4 .left),
-    eq-eqb _ _ (c .before .if5 .left))
+    simp (
+      eq-eqb _ _ (d .before .before .before .if1 .left),
+      sym (d .before .is-between .ensures) ∙ not-false _ (d .if2 .left),
+      eq-eqb _ _ (k .if3 .left),
+      sym (e .before .is-between2 .ensures) ∙ not-false _ (e .if4 .left),
+      eq-eqb _ _ (c .before .if5 .left),
+    )
     (c .are-kind-letters .ensures)
 
 pub is-question-spec : {M : Type 1} → statement M

@@ -39,21 +39,23 @@ returns-3 : tie.Need-returns-3
 returns-3 c =
     let m = c .before .before .before in
     let i = m .before .before .before in
-    let q = sym (i .before .is-question .ensures) ∙ not-false _ (i .if1 .left) in
-    (sym
-    (question-code _ q
-    ∙ simp (sym (m .before .is-between .ensures) ∙ not-false _ (m .if2 .left), sym (c .before .is-between2 .ensures) ∙ not-true _ (c .if3 .taken))),
-    lit≤ tt)
+    let q = sym (i .before .is-question .ensures) ∙ not-false _ (i .if1 .left) in (
+      sym
+          (question-code _ q
+          ∙ simp (sym (m .before .is-between .ensures) ∙ not-false _ (m .if2 .left), sym (c .before .is-between2 .ensures) ∙ not-true _ (c .if3 .taken))),
+      lit≤ tt,
+    )
 
 returns-4 : tie.Need-returns-4
 returns-4 c =
     let m = c .before .before .before in
     let i = m .before .before .before in
-    let q = sym (i .before .is-question .ensures) ∙ not-false _ (i .if1 .left) in
-    (sym
-    (question-code _ q
-    ∙ simp (sym (m .before .is-between .ensures) ∙ not-false _ (m .if2 .left), sym (c .before .is-between2 .ensures) ∙ not-false _ (c .if3 .left))),
-    lit≤ tt)
+    let q = sym (i .before .is-question .ensures) ∙ not-false _ (i .if1 .left) in (
+      sym
+          (question-code _ q
+          ∙ simp (sym (m .before .is-between .ensures) ∙ not-false _ (m .if2 .left), sym (c .before .is-between2 .ensures) ∙ not-false _ (c .if3 .left))),
+      lit≤ tt,
+    )
 
 pub line-code-spec : {M : Type 1} → statement M
 line-code-spec =

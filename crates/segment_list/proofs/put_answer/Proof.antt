@@ -51,9 +51,10 @@ unfolding listLines
 returns-2 c =
     let n = c .before .before in
     let l = n .before .before .before in
-    let mode = sym (n .from-number .ensures) ∙ c .enum-told .given .1 in
-    (put-as (list-answer (l .before .before .before .args .s .now) _ _ (l .line-code .ensures .0) (n .before .before .if1 .left) mode) (put-none _ _),
-    omega arith)
+    let mode = sym (n .from-number .ensures) ∙ c .enum-told .given .1 in (
+      put-as (list-answer (l .before .before .before .args .s .now) _ _ (l .line-code .ensures .0) (n .before .before .if1 .left) mode) (put-none _ _),
+      omega arith,
+    )
 
 put-segments-requires : tie.Need-put-segments-requires
 put-segments-requires c κs =
@@ -76,10 +77,11 @@ returns-3 c =
     let n = m .before .before in
     let i = n .before .before in
     let l = i .before in
-    let mode = sym (n .from-number .ensures) ∙ m .mode .given .1 in
-    (put-as (list-answer (l .before .before .before .args .s .now) _ _ (l .line-code .ensures .0) (i .if1 .left) mode)
-    (then (p .put-segments .ensures .0) (e .put-edge .ensures .0)),
-    omega (arith, p .put-segments .ensures .1, e .put-edge .ensures .1))
+    let mode = sym (n .from-number .ensures) ∙ m .mode .given .1 in (
+      put-as (list-answer (l .before .before .before .args .s .now) _ _ (l .line-code .ensures .0) (i .if1 .left) mode)
+          (then (p .put-segments .ensures .0) (e .put-edge .ensures .0)),
+      omega (arith, p .put-segments .ensures .1, e .put-edge .ensures .1),
+    )
 
 pub put-answer-spec : {M : Type 1} → statement M
 put-answer-spec =

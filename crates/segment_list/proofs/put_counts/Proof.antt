@@ -38,21 +38,23 @@ returns c =
     let t = a1 .before .before .before .before in
     let p = t .before .before .before .before in
     let s = p .before .before .before .before in
-    let d = s .before .before .before .before in
-    (then (d .put-field .ensures .0)
-    (then (s .put-field2 .ensures .0)
-    (then (p .put-field3 .ensures .0)
-    (then (t .put-field4 .ensures .0) (then (a1 .put-field5 .ensures .0) (then (a2 .put-decimal .ensures .0) (z .put-byte .ensures)))))),
-    omega
-    (arith,
-    z .put-byte .ensures .next,
-    a2 .put-decimal .ensures .1,
-    a1 .put-field5 .ensures .1,
-    t .put-field4 .ensures .1,
-    p .put-field3 .ensures .1,
-    s .put-field2 .ensures .1,
-    d .put-field .ensures .1,
-    d .before .before .before .pre))
+    let d = s .before .before .before .before in (
+      then (d .put-field .ensures .0)
+          (then (s .put-field2 .ensures .0)
+          (then (p .put-field3 .ensures .0)
+          (then (t .put-field4 .ensures .0) (then (a1 .put-field5 .ensures .0) (then (a2 .put-decimal .ensures .0) (z .put-byte .ensures)))))),
+      omega (
+        arith,
+        z .put-byte .ensures .next,
+        a2 .put-decimal .ensures .1,
+        a1 .put-field5 .ensures .1,
+        t .put-field4 .ensures .1,
+        p .put-field3 .ensures .1,
+        s .put-field2 .ensures .1,
+        d .put-field .ensures .1,
+        d .before .before .before .pre,
+      ),
+    )
 
 pub put-counts-spec : {M : Type 1} → statement M
 put-counts-spec =

@@ -43,9 +43,10 @@ returns c =
     let z = c .before .before in
     let f = z .before .before .before .before .before in
     let n = f .before in
-    let t = n .before .before .before .before in
-    (put-as (rw (n .total-carriers .ensures)) (then (t .put-text .ensures) (then (f .put-field .ensures .0) (z .put-text2 .ensures))),
-    omega (arith, t .put-text .ensures .next, f .put-field .ensures .1, z .put-text2 .ensures .next))
+    let t = n .before .before .before .before in (
+      put-as (rw (n .total-carriers .ensures)) (then (t .put-text .ensures) (then (f .put-field .ensures .0) (z .put-text2 .ensures))),
+      omega (arith, t .put-text .ensures .next, f .put-field .ensures .1, z .put-text2 .ensures .next),
+    )
 
 pub put-edge-spec : {M : Type 1} → statement M
 put-edge-spec =

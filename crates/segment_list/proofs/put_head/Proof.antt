@@ -30,17 +30,19 @@ returns c =
     let m = f .before .before .before .before in
     let l = m .before .before .before .before in
     let s = l .before .before .before .before in
-    let p = s .before .before .before .before in
-    (then (p .put-field .ensures .0)
-    (then (s .put-field2 .ensures .0) (then (l .put-byte .ensures) (then (m .put-byte2 .ensures) (f .put-field3 .ensures .0)))),
-    omega
-    (arith,
-    f .put-field3 .ensures .1,
-    m .put-byte2 .ensures .next,
-    l .put-byte .ensures .next,
-    s .put-field2 .ensures .1,
-    p .put-field .ensures .1,
-    p .before .before .before .pre))
+    let p = s .before .before .before .before in (
+      then (p .put-field .ensures .0)
+          (then (s .put-field2 .ensures .0) (then (l .put-byte .ensures) (then (m .put-byte2 .ensures) (f .put-field3 .ensures .0)))),
+      omega (
+        arith,
+        f .put-field3 .ensures .1,
+        m .put-byte2 .ensures .next,
+        l .put-byte .ensures .next,
+        s .put-field2 .ensures .1,
+        p .put-field .ensures .1,
+        p .before .before .before .pre,
+      ),
+    )
 
 pub put-head-spec : {M : Type 1} → statement M
 put-head-spec =

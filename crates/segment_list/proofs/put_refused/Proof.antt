@@ -27,9 +27,10 @@ unfolding refusedLine
 returns c =
     let z = c .before .before in
     let d = z .before .before .before .before in
-    let t = d .before .before .before .before in
-    (then (t .put-text .ensures) (then (d .put-decimal .ensures .0) (z .put-byte .ensures)),
-    omega (arith, t .put-text .ensures .next, d .put-decimal .ensures .1, z .put-byte .ensures .next))
+    let t = d .before .before .before .before in (
+      then (t .put-text .ensures) (then (d .put-decimal .ensures .0) (z .put-byte .ensures)),
+      omega (arith, t .put-text .ensures .next, d .put-decimal .ensures .1, z .put-byte .ensures .next),
+    )
 
 pub put-refused-spec : {M : Type 1} → statement M
 put-refused-spec =

@@ -55,15 +55,16 @@ returns c =
     let b = h .before .before in
     let k = b .before in
     let g = k .before .before in
-    let start = g .before .before .before in
-    (segment-put (start .args .mode) (start .args .s .now) (start .args .place .0) _ _ (k .from-code .result) (start .pre .2) (start .pre .1)
-    (g .segment-at-position .ensures .0)
-    (b .band-carrier .ensures)
-    (k .from-code .ensures)
-    (t .before .kind-counts .ensures)
-    (h .put-head .ensures .0)
-    (t .put-counts .ensures .0),
-    omega (arith, t .put-counts .ensures .1, h .put-head .ensures .1))
+    let start = g .before .before .before in (
+      segment-put (start .args .mode) (start .args .s .now) (start .args .place .0) _ _ (k .from-code .result) (start .pre .2) (start .pre .1)
+          (g .segment-at-position .ensures .0)
+          (b .band-carrier .ensures)
+          (k .from-code .ensures)
+          (t .before .kind-counts .ensures)
+          (h .put-head .ensures .0)
+          (t .put-counts .ensures .0),
+      omega (arith, t .put-counts .ensures .1, h .put-head .ensures .1),
+    )
 
 pub put-segment-spec : {M : Type 1} → statement M
 put-segment-spec =

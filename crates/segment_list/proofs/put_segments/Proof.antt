@@ -36,11 +36,12 @@ loop-again : tie.Need-loop-again Inv-loop μ-loop
 loop-again c =
     let p = c .before .before in
     let l = p .before .before .before in
-    let start = l .before .before .before in
-    (omega arith,
-    omega arith,
-    omega (arith, p .put-segment .ensures .1),
-    put-as (joined-next (lineAt (start .args .mode) (start .args .s .now)) (l .loop .place)) (then (l .loop .inv .3) (p .put-segment .ensures .0)))
+    let start = l .before .before .before in (
+      omega arith,
+      omega arith,
+      omega (arith, p .put-segment .ensures .1),
+      put-as (joined-next (lineAt (start .args .mode) (start .args .s .now)) (l .loop .place)) (then (l .loop .inv .3) (p .put-segment .ensures .0)),
+    )
 
 same-length : tie.Need-same-length Inv-loop μ-loop
 same-length c = c .before .loop .inv .1

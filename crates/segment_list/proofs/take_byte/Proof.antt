@@ -1,7 +1,6 @@
 -- `segment_list::take_byte` meets its contract: a line feed has the line answered, any other byte is gathered.
 -- Assumes nothing.
 use native.Mathlib.Omega.{arith}
-use Rattle.segment_list.specs.Gather.{Gathers}
 use Rattle.segment_list.specs.Gathered.{gathers-new, gathers-pushed, answer-held}
 use Rattle.segment_list.specs.Fed.{takes-feed, takes-byte}
 use Rattle.text.specs.Laws.{put-as}
@@ -21,9 +20,10 @@ same-length c = search needs
 returns : tie.Need-returns
 returns c =
     let p = c .before .before .before in
-    let line = p .before .before .before .before .args .line in
-    (takes-feed _ (p .before .before .if1 .taken) (λ s g. put-as (answer-held line s g) (p .answer-line .ensures .0)) (rw (c .new .ensures) gathers-new),
-    p .answer-line .ensures .1)
+    let line = p .before .before .before .before .args .line in (
+      takes-feed _ (p .before .before .if1 .taken) (λ s g. put-as (answer-held line s g) (p .answer-line .ensures .0)) (rw (c .new .ensures) gathers-new),
+      p .answer-line .ensures .1,
+    )
 
 push-requires : tie.Need-push-requires
 push-requires c κs = search needs

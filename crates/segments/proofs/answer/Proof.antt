@@ -4,7 +4,8 @@ use Prim.Native.Nat.{ℕ, _-_, _≤_}
 use mathlib.Core.Path.{_≡_, refl}
 use native.Mathlib.Omega.{arith}
 use lib.ListN.{length, take, length-take}
-use Rattle.segment_list.specs.Feed.{Leaves, leaves-none, leaves-slice, leaves-all}
+use Rattle.segment_list.specs.Feed.{Leaves}
+use Rattle.segment_list.specs.Fed.{leaves-none, leaves-slice, leaves-all}
 use borrow.Author.Needs.{needs}
 use Rattle.segments.proofs.answer.Statement.{statement}
 use Rattle.segments.proofs.answer.Tie as tie
@@ -37,10 +38,21 @@ returns : tie.Need-returns Inv-loop μ-loop
 returns c = λ e. absurd (let z : _≡_ {A = ℕ} 0 1 = cc in omega arith)
 
 loop-less : tie.Need-loop-less Inv-loop μ-loop
-loop-less c = omega (arith, c .before .before .before .before .before .before .feed .ensures .progress (omega arith) (c .before .before .before .before .before .before .before .before .loop-test .taken), c .before .before .before .before .before .before .feed .ensures .within (omega arith))
+loop-less c =
+    let f = c .before .before .before .before .before .before in
+    let on = f .feed .ensures .progress (omega arith) (f .before .before .loop-test .taken) in
+    omega (arith, f .feed .ensures .within (omega arith))
 
 loop-again : tie.Need-loop-again Inv-loop μ-loop
-loop-again c = (omega arith, c .before .before .before .before .before .before .feed .ensures .within (omega arith), leaves-slice (c .before .before .before .before .before .before .before .before .before .before .before .before .args .bytes .now) (c .before .before .before .before .before .before .before .before .before .loop .from) (c .before .before .before .before .before .before .feed .result .used) (omega (arith, c .before .before .before .before .before .before .feed .ensures .progress (omega arith) (c .before .before .before .before .before .before .before .before .loop-test .taken))) (c .before .before .before .before .before .before .before .before .before .loop .inv .2) (c .before .before .before .before .before .before .feed .ensures .takes .leaves))
+loop-again c =
+    let f = c .before .before .before .before .before .before in
+    let l = f .before .before .before in
+    let fed = f .feed .ensures in
+    let on = fed .progress (omega arith) (f .before .before .loop-test .taken) in (
+      omega arith,
+      fed .within (omega arith),
+      leaves-slice (l .before .before .before .args .bytes .now) (l .loop .from) (f .feed .result .used) (omega arith) (l .loop .inv .2) (fed .takes .leaves),
+    )
 
 same-length-2 : tie.Need-same-length-2 Inv-loop μ-loop
 same-length-2 c = c .before .loop .inv .0

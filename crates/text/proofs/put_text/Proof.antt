@@ -36,11 +36,12 @@ loop-less c = omega arith
 loop-again : tie.Need-loop-again Inv-loop μ-loop
 loop-again c =
     let b = c .before .before in
-    let l = b .before .before .before in
-    (omega arith,
-    omega arith,
-    omega (arith, b .put-byte .ensures .next),
-    put-as (take-more _ _ (l .loop-test .taken)) (then (l .before .loop .inv .3) (b .put-byte .ensures)))
+    let l = b .before .before .before in (
+      omega arith,
+      omega arith,
+      omega (arith, b .put-byte .ensures .next),
+      put-as (take-more _ _ (l .loop-test .taken)) (then (l .before .loop .inv .3) (b .put-byte .ensures)),
+    )
 
 same-length : tie.Need-same-length Inv-loop μ-loop
 same-length c = c .before .loop .inv .1
