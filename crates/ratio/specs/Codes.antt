@@ -14,20 +14,21 @@ use Rattle.spectra.specs.Spectra.{spectraIn, spectraCode}
 use Rattle.spectra.specs.Codes as spectra
 use Rattle.ratio.specs.Ratio.{binRatios, metricCode, metricLeaves, MetricTaken}
 
-pub later-counts : (len n r : ℕ) → InFront (metricCode len n r)
-later-counts len n r = both-in-front (spectraCode len n) (unless (eqb r len) 7) (spectra.later-counts len n) (one-in-front (eqb r len) 7 (lit< tt))
+pub later-counts : (len floats room : ℕ) → InFront (metricCode len floats room)
+later-counts len floats room =
+    both-in-front (spectraCode len floats) (unless (eqb room len) 7) (spectra.later-counts len floats) (one-in-front (eqb room len) 7 (lit< tt))
 
-pub record Accepted (len n r later : ℕ) : Type 0 where
-  pub some : 0 < spectraIn len n
-  pub few : spectraIn len n ≤ 1024
-  pub bins : r ≡ len
+pub record Accepted (len floats room later : ℕ) : Type 0 where
+  pub some : 0 < spectraIn len floats
+  pub few : spectraIn len floats ≤ 1024
+  pub bins : room ≡ len
   pub rest : later ≡ 0
 
-pub accepted : (len n r later : ℕ) → metricCode len n r later ≡ 0 → Accepted len n r later
-accepted len n r later e =
-    let s = spectra.accepted len n _ e in
-    let l = passed (eqb r len) 7 later (lit< tt) (s .rest) in
-    record { some = s .some; few = s .few; bins = eqb-true r len (l .first); rest = l .rest }
+pub accepted : (len floats room later : ℕ) → metricCode len floats room later ≡ 0 → Accepted len floats room later
+accepted len floats room later e =
+    let s = spectra.accepted len floats _ e in
+    let l = passed (eqb room len) 7 later (lit< tt) (s .rest) in
+    record { some = s .some; few = s .few; bins = eqb-true room len (l .first); rest = l .rest }
 
 -- ---- what is left of the lent ratios
 pub ratios-length : (len : ℕ) (xs : List Float) → length (binRatios len xs) ≡ len

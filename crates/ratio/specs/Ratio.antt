@@ -1,6 +1,6 @@
 -- A bin's ratio (acquire.rs, `continual_metric`), from the list of the bin's pairs in symbol order: |Σ p²| / Σ |p|², where p is the product
 -- of a pair and the conjugate of the one before it. Continual carriers give about 1. 0.0 where the energy is not above 0.
--- Assumes nothing.
+-- Definitions only.
 use Prim.Native.Nat.{ℕ}
 use mathlib.Core.Bool.{Bool, cond}
 use mathlib.Core.List.{List, [], _∷_, map}

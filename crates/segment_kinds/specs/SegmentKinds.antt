@@ -1,6 +1,6 @@
 -- The kinds of the thirteen segments (acquire.rs, `detect_kinds`; document 01, "Ratios, shift and kinds"): a segment is differential where
 -- the carriers that are continual in a differential segment only have a mean ratio above 0.5.
--- Assumes nothing.
+-- Definitions only.
 use Prim.Native.Nat.{ℕ, _+_, _*_}
 use mathlib.Core.Bool.{Bool, not, cond}
 use mathlib.Core.List.{List, _∷_, _++_, map}
@@ -63,13 +63,13 @@ kindsLeaves (Known m) xs old = metricLeaves (totalCarriers m) xs old
 
 -- where the call is refused, kinds and scores are zeros
 unfoldable pub kindsAnswer : ModeNumber → List Float → ℕ → List ℕ
-kindsAnswer Unknown xs n = upTo (λ seg. 0) 13
-kindsAnswer (Known m) xs n = cond (eqb (kindsCode (Known m) (length xs) n) 0) (detectedKinds m (binRatios (totalCarriers m) xs)) (upTo (λ seg. 0) 13)
+kindsAnswer Unknown xs room = upTo (λ seg. 0) 13
+kindsAnswer (Known m) xs room = cond (eqb (kindsCode (Known m) (length xs) room) 0) (detectedKinds m (binRatios (totalCarriers m) xs)) (upTo (λ seg. 0) 13)
 
 unfoldable pub scoresAnswer : ModeNumber → List Float → ℕ → List Float
-scoresAnswer Unknown xs n = upTo (λ seg. plusZero binary32) 13
-scoresAnswer (Known m) xs n =
-    cond (eqb (kindsCode (Known m) (length xs) n) 0) (kindScores m (binRatios (totalCarriers m) xs)) (upTo (λ seg. plusZero binary32) 13)
+scoresAnswer Unknown xs room = upTo (λ seg. plusZero binary32) 13
+scoresAnswer (Known m) xs room =
+    cond (eqb (kindsCode (Known m) (length xs) room) 0) (kindScores m (binRatios (totalCarriers m) xs)) (upTo (λ seg. plusZero binary32) 13)
 
 pub record KindsDetected (mode : ModeNumber) (xs old : List Float) (r : DetectedKinds) (now : List Float) : Type 0 where
   pub code : r .code ≡ kindsCode mode (length xs) (length old)

@@ -1,6 +1,6 @@
 -- The shift (acquire.rs, `integer_cfo`; document 01, "Ratios, shift and kinds"): the pattern of AC1 carriers and the edge is laid over the
 -- ratios at every shift from -bound to bound, and the greatest sum wins.
--- Assumes nothing.
+-- Definitions only.
 use Prim.Native.Nat.{ℕ, suc, _+_, _-_, _*_, _/_, _%_}
 use mathlib.Core.Bool.{cond}
 use mathlib.Core.List.{List, [], _∷_, _++_, map}

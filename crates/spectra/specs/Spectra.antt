@@ -1,6 +1,6 @@
 -- Spectra lie one behind another in a lent list of floats, real and imaginary part in turn (document 01). This file alone knows that:
 -- everything above speaks of a bin's pairs in symbol order, or of a spectrum's pairs by bin.
--- Assumes nothing.
+-- Definitions only.
 use Prim.Native.Nat.{ℕ, zero, suc, _+_, _*_, _/_, _%_}
 use mathlib.Core.Bool.{Bool, _&&_}
 use mathlib.Core.List.{List, [], _∷_}
