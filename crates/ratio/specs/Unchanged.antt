@@ -3,10 +3,10 @@
 -- is whether the energy is above zero.
 -- Assumes nothing.
 use Prim.Native.Nat.{ℕ, zero, suc, _≤_, _<_}
-use mathlib.Core.Bool.{Bool, true, false, cond}
+use mathlib.Core.Bool.{Bool, false, cond}
 use mathlib.Core.List.{List, [], _∷_, map}
 use mathlib.Core.Logic.{_⊎_, inl, inr}
-use mathlib.Core.Path.{_≡_, refl, sym, ap, _∙_, subst}
+use mathlib.Core.Path.{_≡_, refl, sym, ap, _∙_}
 use native.Mathlib.Omega.{arith}
 use lib.ListN.{length, length-map}
 use lib.Ieee.{Float, binary32, binary64, unlike}
@@ -16,8 +16,8 @@ use Rattle.ieee.specs.Levels.{Scaled}
 use Rattle.ieee.specs.Sums.{total, Each, each-map, each-equal, total-alike}
 use Rattle.lists.specs.Select.{upTo-same}
 use Rattle.complex.specs.Complex.{Pair, pair, product, conjugate, norm32}
-use Rattle.complex.specs.Changes.{Change, changedPair, turnIf, negated, gainBy, amplified, most, WholePair}
-use Rattle.complex.specs.Turns.{Alike, turned-product, negated-product, square-re, square-im, alike-size, norm32-same}
+use Rattle.complex.specs.Changes.{Change, changedPair, negated, gainBy, amplified, most, WholePair}
+use Rattle.complex.specs.Turns.{Alike, changed-product-alike, square-re, square-im, alike-size, norm32-same}
 use Rattle.complex.specs.Gains.{BothScaled}
 use Rattle.complex.specs.Totals.{reals, imaginaries, totals-parts}
 use Rattle.complex.specs.Bounds.{stepLevel, termLevel, binLevel, part-gain, step-gain, square-gain, size-gain}
@@ -72,10 +72,6 @@ record Signed (p q : Pair) : Type 0 where
   flipped : Bool
   alike : Alike p (negated flipped q)
 
-turn-product : (t : Bool) (x y : Pair) → product binary32 (turnIf t x) (conjugate (turnIf t y)) ≡ product binary32 x (conjugate y)
-turn-product true x y = turned-product binary32 x y
-turn-product false x y = refl
-
 module _ (c : Change) where
   abbrev by : Pair → Pair
   by x = gainBy (c .gain) x
@@ -86,12 +82,7 @@ module _ (c : Change) where
       let a = c .negates i in
       let b = c .negates j in
       let t = c .turns in
-      record {
-        flipped = unlike a b;
-        alike =
-            subst (λ (p : Pair). Alike (product binary32 (changedPair c i x) (conjugate (changedPair c j y))) (negated (unlike a b) p))
-            (turn-product t (by x) (by y)) (negated-product binary32 a b (turnIf t (by x)) (turnIf t (by y)));
-      }
+      record { flipped = unlike a b; alike = changed-product-alike binary32 a b t (by x) (by y) }
 
   changed-after : (j : ℕ) (y : Pair) (xs : List Pair)
       → Each Signed (stepsFrom (changedPair c j y) (changedFrom c (suc j) xs)) (stepsFrom (by y) (map by xs))
