@@ -1,7 +1,7 @@
 -- What the grid is worth: it keeps its length and every point that no pilot gives; the others depend on nothing that was lent; with no coherent
 -- segment nothing changes; and its points are the standard's pilots, scattered in the coherent segments and continual above them.
 -- Assumes nothing.
-use Prim.Native.Nat.{ℕ, _+_, _-_, _*_, _/_, _%_, _≤_, _<_}
+use Prim.Native.Nat.{ℕ, _+_, _-_, _*_, _/_, _%_, _<_}
 use mathlib.Core.Bool.{Bool, true, false, cond, _&&_, _||_}
 use mathlib.Core.List.{List, [], List·Memᴰ}
 use mathlib.Core.Path.{_≡_, refl, sym, ap, _∙_}

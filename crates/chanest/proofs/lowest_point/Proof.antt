@@ -1,6 +1,6 @@
 -- `chanest::lowest_point` meets its contract: thirteen segments' points are few.
 -- Assumes nothing.
-use Prim.Native.Nat.{_*_, _/_, _≤_}
+use Prim.Native.Nat.{_*_, _/_}
 use mathlib.Core.Path.{ap}
 use native.Mathlib.Nat.{mul-le-mul-right}
 use native.Mathlib.Omega.{arith}

@@ -1,6 +1,6 @@
 -- `chanest::write_segment` meets its contract: each turn stores the estimate by the times at which the point's carrier has its pilots.
 -- Assumes nothing.
-use Prim.Native.Nat.{_+_, _*_, _-_, _≤_}
+use Prim.Native.Nat.{_+_, _-_, _≤_}
 use mathlib.Core.Path.{_≡_}
 use native.Mathlib.Omega.{arith}
 use borrow.Author.Needs.{needs}
