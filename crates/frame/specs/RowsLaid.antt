@@ -1,4 +1,4 @@
--- The carrier tables held against each other: the rows of modes 2 and 3 are those of mode 1 laid end to end, and both kinds of segment
+-- The carrier tables compared with each other: the rows of modes 2 and 3 are those of mode 1 laid end to end, and both kinds of segment
 -- have the same AC1.
 -- Assumes nothing.
 use Prim.Native.Nat.{ℕ, zero, suc, _+_, _*_, _%_, _<_}

@@ -1,4 +1,4 @@
--- Table 3-16 held against the register itself: its rows are the states of one register that runs on across the band, whose next output
+-- Table 3-16 compared with the register itself: its rows are the states of one register that runs on across the band, whose next output
 -- is the edge's sign; and the signs obey the polynomial.
 -- Assumes nothing.
 use Prim.Native.Nat.{ℕ, zero, suc, _+_, _*_, _<_}
