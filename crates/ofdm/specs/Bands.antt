@@ -22,10 +22,10 @@ module _ (mode : Mode) (f : ℕ → List ℕ) (size : (seg : ℕ) → length (f 
     pub band : length old ≡ totalCarriers mode
     pub passed : place ≤ 13
     pub same-size : length out ≡ length old
-    pub front : out ≡ joined f (take place order) ++ drop (place * c) old
+    pub so-far : out ≡ joined f (take place order) ++ drop (place * c) old
 
   pub begin : (c : ℕ) → c ≡ carriersPerSegment mode → length old ≡ totalCarriers mode → WrittenTo c 0 old
-  begin c e l = record { carriers = e; band = l; passed = omega arith; same-size = refl; front = rw zero-mul }
+  begin c e l = record { carriers = e; band = l; passed = omega arith; same-size = refl; so-far = rw zero-mul }
 
   module _ (c place : ℕ) (out : List ℕ) (w : WrittenTo c place out) where
     pub part-small : length old ≤ 5617
@@ -52,8 +52,8 @@ module _ (mode : Mode) (f : ℕ → List ℕ) (size : (seg : ℕ) → length (f 
             band = w .band;
             passed = omega arith;
             same-size = same ∙ w .same-size;
-            front =
-                put ∙ (rw place-starts (parts-again f c (λ s. size s ∙ sym (w .carriers)) order old out part place h (w .front) e));
+            so-far =
+                put ∙ (rw place-starts (parts-again f c (λ s. size s ∙ sym (w .carriers)) order old out part place h (w .so-far) e));
           }
 
     -- the edge is the carrier behind the last segment
@@ -67,4 +67,4 @@ module _ (mode : Mode) (f : ℕ → List ℕ) (size : (seg : ℕ) → length (f 
           let at : edge ≡ 13 * c = rw (w .carriers) starts in
           rw at
           (parts-last f c (λ s. size s ∙ sym (w .carriers)) order old out place v last
-          (omega (arith, w .carriers, w .band, sized mode .band)) (w .front))
+          (omega (arith, w .carriers, w .band, sized mode .band)) (w .so-far))
