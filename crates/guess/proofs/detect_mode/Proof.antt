@@ -43,13 +43,17 @@ abbrev best : Cleared → Best
 best c = c .before .before .before .loop .best
 
 ends : (c : Cleared) (r : GuardSearch) → r ≡ searchOf (best c)
-    → let s = c .before .before .before .before .before .before .before .before .before .before .before .before .before .before .before .args in
+    → let g = c .before .before .before .before .before .before .before in
+    let m = g .before .before in
+    let s = m .before .before .before .before .before .before .args in
     Searched (s .samples .now) (s .modes .now) (s .guards .now) (s .scratch .now) r (c .clear .last .0)
 ends c r e =
     let l = c .before .before .before in
     let t = l .before in
-    let s = t .before .before .before .before .before .before .before .before .before .before .before .args in
-    searched _ _ _ _ (modes-known (t .before .before .before .before .before)) (guards-known (t .before .before .before))
+    let g = t .before .before .before in
+    let m = g .before .before in
+    let s = m .before .before .before .before .before .before .args in
+    searched _ _ _ _ (modes-known m) (guards-known g)
     (t .before .before .if3 .left) (t .before .if4 .left) (t .if5 .left) r _
     (e ∙ all-modes (s .samples .now) (s .modes .now) (s .guards .now) _ (l .loop .i) (c .before .before .loop-test .left) (l .loop .inv .2))
     (c .clear .ensures ∙ ap (upTo (λ i. plusZero binary64)) (l .loop .inv .1))
@@ -103,12 +107,14 @@ loop-less c = search needs
 loop-again : tie.Need-loop-again Inv-loop μ-loop
 loop-again c =
     let l = c .before .before .before .before .before .before in
-    let m = c .before .before .try-mode in
-    let s = l .before .before .before .before .before .before .before .before .before .before .before .before .args in (
+    let tried = c .before .before .try-mode in
+    let g = l .before .before .before .before in
+    let m = g .before .before in
+    let s = m .before .before .before .before .before .before .args in (
       omega arith,
-      m .kept .1 .1 .1 .0 ∙ l .loop .inv .1,
+      tried .kept .1 .1 .1 .0 ∙ l .loop .inv .1,
       next-entry (triedMode (s .samples .now) (s .guards .now)) _ _ _ (s .modes .now) (l .loop .i)
-          (c .before .before .before .before .before .loop-test .taken) (l .loop .inv .2) (m .ensures),
+          (c .before .before .before .before .before .loop-test .taken) (l .loop .inv .2) (tried .ensures),
     )
 
 clear-requires : tie.Need-clear-requires Inv-loop μ-loop
