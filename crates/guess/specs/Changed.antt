@@ -5,7 +5,6 @@
 use Prim.Native.Nat.{ℕ, zero, suc, _+_, _-_, _*_, _≤_, _<_}
 use mathlib.Core.Bool.{Bool, true, false, cond}
 use mathlib.Core.List.{List, [], _∷_}
-use mathlib.Core.Logic.{inl, inr}
 use mathlib.Core.Path.{_≡_, refl, sym, ap, subst, _∙_}
 use native.Mathlib.Omega.{arith}
 use lib.Dec.{leb, ltb, lit<}
@@ -19,9 +18,9 @@ use Rattle.ieee.specs.Times.{Times, zero-times, le-times}
 use Rattle.ieee.specs.Gain.{times-of, scaled-product}
 use Rattle.complex.specs.Complex.{Pair, product, conjugate, squaredSize, norm64}
 use Rattle.complex.specs.Changes.{turned, negated, turnIf, gainBy, most, WholePair, amplified, Change, ofSamples}
-use Rattle.complex.specs.Turns.{turned-product, both-negated-product, turned-size, negated-size}
+use Rattle.complex.specs.Turns.{changed-product, changed-size}
 use Rattle.complex.specs.Gains.{BothScaled}
-use Rattle.complex.specs.Bounds.{partLevel, stepLevel, energyLevel, guessLevel}
+use Rattle.complex.specs.Bounds.{gain-cases, partLevel, stepLevel, energyLevel, guessLevel}
 use Rattle.complex.specs.Bounds.{part-gain, step-gain, energy-gain, metric-gain, correlation-roomy}
 use Rattle.spectra.specs.Spectra.{pairAt}
 use Rattle.spectra.specs.Changes.{Changed, Wholes, Allowed}
@@ -118,14 +117,6 @@ sample-whole : (xs : List Float) → Wholes 1 xs → (i : ℕ) → i < pairsIn (
 sample-whole xs h i I = rw (sample-number i) at (h .pairs i 0 I (lit< tt))
 
 -- ---- two samples n apart: signs and turn cancel, and the gain stays
-turned-lag : (s t : Bool) (x y : Pair) → product binary32 (negated s (turnIf t x)) (conjugate (negated s (turnIf t y))) ≡ product binary32 x (conjugate y)
-turned-lag s true x y = both-negated-product binary32 s (turned x) (turned y) ∙ turned-product binary32 x y
-turned-lag s false x y = both-negated-product binary32 s x y
-
-turned-sample : (s t : Bool) (x : Pair) → squaredSize binary32 (negated s (turnIf t x)) ≡ squaredSize binary32 x
-turned-sample s true x = negated-size binary32 s (turned x) ∙ turned-size binary32 x
-turned-sample s false x = negated-size binary32 s x
-
 abbrev halved : Float → Float → Float
 halved a b = mul binary64 (add binary32 a b) half
 
@@ -144,12 +135,17 @@ module _ (negates turns : Bool) (gain : ℕ) (xs ys : List Float) (h : ChangedSa
   q = sample-changed negates turns gain xs ys h (i + n) (second-in (pairsIn (length xs)) n i I)
 
   lag-product : lagProduct n ys i ≡ product binary32 (gainBy gain (pairAt xs i)) (conjugate (gainBy gain (pairAt xs (i + n))))
-  lag-product = (λ j. product binary32 (p j) (conjugate (q j))) ∙ turned-lag negates turns (gainBy gain (pairAt xs i)) (gainBy gain (pairAt xs (i + n)))
+  lag-product =
+      (λ j. product binary32 (p j) (conjugate (q j)))
+      ∙ changed-product binary32 negates turns (gainBy gain (pairAt xs i)) (gainBy gain (pairAt xs (i + n)))
 
   lag-energy : lagEnergy n ys i ≡ halved (squaredSize binary32 (gainBy gain (pairAt xs i))) (squaredSize binary32 (gainBy gain (pairAt xs (i + n))))
   lag-energy =
       (λ j. halved (squaredSize binary32 (p j)) (squaredSize binary32 (q j)))
-      ∙ (λ j. halved (turned-sample negates turns (gainBy gain (pairAt xs i)) j) (turned-sample negates turns (gainBy gain (pairAt xs (i + n))) j))
+      ∙ (λ j. halved (same (pairAt xs i) j) (same (pairAt xs (i + n)) j))
+    where
+      same : (x : Pair) → squaredSize binary32 (negated negates (turnIf turns (gainBy gain x))) ≡ squaredSize binary32 (gainBy gain x)
+      same x = changed-size binary32 negates turns (gainBy gain x)
 
 -- the guess at an offset is these sums
 guess-is : (k : ℕ) (xs ys : List Float) (mode guard d : ℕ) → let c = correlationAt xs mode guard d in let e = correlationAt ys mode guard d in
@@ -214,13 +210,10 @@ module _ (negates turns : Bool) (g : ℕ) (K : suc g ≤ most) (xs ys : List Flo
 -- ---- with a gain or without
 by-gain : (negates turns : Bool) (gain : ℕ) (xs ys : List Float) (modes guards : List ℕ) → allIn isMode modes ≡ true → pairsIn (length xs) ≤ 1048576
     → Allowed (sampled negates turns gain) 1 xs → ChangedSamples negates turns gain xs ys → guessed ys modes guards ≡ louder gain (guessed xs modes guards)
-by-gain negates turns zero xs ys modes guards M N A h =
-    search-louder 0 xs ys (h .long) (λ mode guard d m. turned-kept negates turns xs ys h mode guard d) modes guards M
-by-gain negates turns (suc g) xs ys modes guards M N A h =
-    elim A [
-      | inl z ↦ absurd (omega arith)
-      | inr w ↦ search-louder (suc g) xs ys (h .long) (λ mode guard d m. gained-kept negates turns g (w .0) xs ys N (w .1) h mode guard d m) modes guards M
-    ]
+by-gain negates turns gain xs ys modes guards M N A =
+    gain-cases (λ k. ChangedSamples negates turns k xs ys → guessed ys modes guards ≡ louder k (guessed xs modes guards)) gain A
+    (λ h. search-louder 0 xs ys (h .long) (λ mode guard d m. turned-kept negates turns xs ys h mode guard d) modes guards M)
+    (λ g K w h. search-louder (suc g) xs ys (h .long) (λ mode guard d m. gained-kept negates turns g K xs ys N w h mode guard d m) modes guards M)
 
 pub changed-guess : (negates : Bool) (c : Change) (xs ys : List Float) (modes guards : List ℕ) → allIn isMode modes ≡ true → pairsIn (length xs) ≤ 1048576
     → Allowed (ofSamples negates c) 1 xs → Changed (ofSamples negates c) 1 (λ b. b) xs ys

@@ -9,13 +9,13 @@ ghost use lib.Dec.{leb};
 ghost use lib.ListN.{length, drop};
 ghost use Rattle.lists.specs.Lists.{joined, range};
 ghost use Rattle.lists.specs.Tests.{allIn};
-ghost use Rattle.frame.specs.Roles.{between};
 ghost use Rattle.role_counts.specs.Counts.{Few};
 ghost use Rattle.text.specs.Put.{Put, PutCut};
 ghost use Rattle.segment_list.specs.Text.{isKindLetter, isQuestion, edgeLine, refusedLine, lineCode, lineAnswer, segmentsPrints};
 ghost use Rattle.segment_list.specs.Question.{Answered, lineHead, countsLine, lineAt};
 ghost use Rattle.segment_list.specs.Gather.{newLine, pushed, heldAnswer, heldLast};
 ghost use Rattle.segment_list.specs.Feed.{Takes, Feeds};
+use frame::is_between;
 use ofdm::BandCarrier;
 use ofdm::BandPlace;
 use ofdm::Segment;
@@ -154,15 +154,6 @@ fn put_refused(out: &mut [u8], at: usize, code: usize) -> usize
     put_byte(out, end, b'\n')
 }
 
-fn is_between(b: u8, low: u8, high: u8) -> bool
-    ensures { λ r. ⌜ r ≡ between low high b ⌝ }
-{
-    if b < low {
-        return false;
-    }
-    b <= high
-}
-
 fn is_kind_letter(b: u8) -> bool
     ensures { λ r. ⌜ r ≡ isKindLetter b ⌝ }
 {
@@ -196,13 +187,13 @@ fn is_question(s: &[u8]) -> bool
     if s.len() != 17 {
         return false;
     }
-    if !is_between(s[0], b'0', b'9') {
+    if !is_between(b'0', b'9', s[0]) {
         return false;
     }
     if s[1] != b',' {
         return false;
     }
-    if !is_between(s[2], b'0', b'9') {
+    if !is_between(b'0', b'9', s[2]) {
         return false;
     }
     if s[3] != b',' {
@@ -219,10 +210,10 @@ fn line_code(s: &[u8]) -> usize
     if !is_question(s) {
         return 11;
     }
-    if !is_between(s[0], b'1', b'3') {
+    if !is_between(b'1', b'3', s[0]) {
         return 1;
     }
-    if !is_between(s[2], b'0', b'3') {
+    if !is_between(b'0', b'3', s[2]) {
         return 3;
     }
     0
