@@ -43,6 +43,16 @@ phase-number (Known m) kinds xs = let code = phaseCode (Known m) kinds (length x
     by code true e = sym (eqb-true code 0 e)
     by code false e = refl
 
+-- so a refusal's number is never 0
+pub refused-number : (mode : ModeNumber) (kinds : List ℕ) (xs : List Float) (n : ℕ) → phaseAnswer mode kinds xs ≡ Refused n → n ≡ 0 → ⊥
+unfolding phaseAnswer
+refused-number Unknown kinds xs n e z = let o : _≡_ {A = ℕ} 1 0 = cc in omega arith
+refused-number (Known m) kinds xs n e z = let code = phaseCode (Known m) kinds (length xs) in by code (eqb code 0) refl e
+  where
+    by : (code : ℕ) (accepted : Bool) → eqb code 0 ≡ accepted → cond accepted (Detected (detected m kinds xs)) (Refused code) ≡ Refused n → ⊥
+    by code true t e = let o : _≡_ {A = ℕ} 1 0 = cc in omega arith
+    by code false t e = eqb-false code 0 t (cc)
+
 -- ---- the phase of symbol 0, handed on to symbol j
 pub phase-below : (phase j : ℕ) → phaseAt phase j < 4
 phase-below phase j = mod-lt _ (lit< tt)
