@@ -25,12 +25,14 @@ use Rattle.params.specs.Params.{totalCarriers}
 use Rattle.spectra.specs.Spectra.{spectraIn}
 use Rattle.frame.specs.Roles.{bandRoles, wide}
 use Rattle.frame.specs.Operations.{areKinds}
+use Rattle.pilot_phase.specs.declared.PilotPhase.{PilotPhase}
 use Rattle.pilot_phase.specs.declared.PilotPhase.the-variants.{Phase}
+use Rattle.pilot_phase.specs.declared.PhaseAnswer.{PhaseAnswer}
 use Rattle.pilot_phase.specs.declared.PhaseAnswer.the-variants.{Detected, Refused}
 use Rattle.pilot_phase.specs.Ballots.{pilots, pilotPairs, Ballot, ballotAt, ballots}
 use Rattle.pilot_phase.specs.PilotPhase.{phaseAt, voteOf, votesFrom, votes, countOf, countsOf, plusCounts, turnedBack}
 use Rattle.pilot_phase.specs.PilotPhase.{better, wonBy, shareOf, phaseOf, larger, largest, others, nextTo, leadOf}
-use Rattle.pilot_phase.specs.PilotPhase.{phaseCode, detected, phaseAnswer, noCounts, countsAnswer, phaseNumber}
+use Rattle.pilot_phase.specs.PilotPhase.{phaseCode, detected, phaseAnswer, noCounts, countsAnswer, phaseNumber, besideGiven}
 use Rattle.pilot_phase.specs.Pilots.{isPilot, pilots-leave, apart-member}
 
 -- ---- an answer's number is the code
@@ -42,6 +44,23 @@ phase-number (Known m) kinds xs = let code = phaseCode (Known m) kinds (length x
     by : (code : ℕ) (accepted : Bool) → eqb code 0 ≡ accepted → phaseNumber (cond accepted (Detected (detected m kinds xs)) (Refused code)) ≡ code
     by code true e = sym (eqb-true code 0 e)
     by code false e = refl
+
+-- so a refusal's number is never 0
+pub refused-number : (mode : ModeNumber) (kinds : List ℕ) (xs : List Float) (n : ℕ) → phaseAnswer mode kinds xs ≡ Refused n → n ≡ 0 → ⊥
+unfolding phaseAnswer
+refused-number Unknown kinds xs n e z = let o : _≡_ {A = ℕ} 1 0 = cc in omega arith
+refused-number (Known m) kinds xs n e z = let code = phaseCode (Known m) kinds (length xs) in by code (eqb code 0) refl e
+  where
+    by : (code : ℕ) (accepted : Bool) → eqb code 0 ≡ accepted → cond accepted (Detected (detected m kinds xs)) (Refused code) ≡ Refused n → ⊥
+    by code true t e = let o : _≡_ {A = ℕ} 1 0 = cc in omega arith
+    by code false t e = eqb-false code 0 t (cc)
+
+-- what stands beside the answer, by the answer's case
+pub beside-detected : {A : Type 0} {a : PhaseAnswer} {found : PilotPhase} (given lent : A) → a ≡ Detected found → given ≡ besideGiven a given lent
+beside-detected given lent e = sym (ap (λ (x : PhaseAnswer). besideGiven x given lent) e)
+
+pub beside-refused : {A : Type 0} {a : PhaseAnswer} {code : ℕ} (given lent : A) → a ≡ Refused code → lent ≡ besideGiven a given lent
+beside-refused given lent e = sym (ap (λ (x : PhaseAnswer). besideGiven x given lent) e)
 
 -- ---- the phase of symbol 0, handed on to symbol j
 pub phase-below : (phase j : ℕ) → phaseAt phase j < 4

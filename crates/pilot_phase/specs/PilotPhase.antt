@@ -133,6 +133,11 @@ shareGiven (Detected (Phase p s)) lent = s
 shareGiven (Detected NoScatteredPilots) lent = lent
 shareGiven (Refused code) lent = lent
 
+-- what stands beside the answer, the counts and the lead, is given where it is not refused
+abbrev pub besideGiven : {A : Type 0} → PhaseAnswer → A → A → A
+besideGiven (Detected found) given lent = given
+besideGiven (Refused code) given lent = lent
+
 pub record PhaseDetected (mode : ModeNumber) (kinds : List ℕ) (xs : List Float) (r : PilotAnswer) : Type 0 where
   pub number : phaseNumber (r .answer) ≡ phaseCode mode kinds (length xs)
   pub answer : r .answer ≡ phaseAnswer mode kinds xs
