@@ -1,7 +1,7 @@
 -- Demand 3 holds. Each operation's answer is made from what a change keeps: the ratios of the bins, the ballots of the symbols, the sums of the guess
 -- but for the gain; and its refusal is a function of lengths and codes alone.
 -- Assumes nothing.
-use Prim.Native.Nat.{ℕ, _+_, _%_, _≤_, _<_}
+use Prim.Native.Nat.{ℕ, _+_, _%_, _≤_}
 use borrow.Author.Tests.{leb-true}
 use mathlib.Core.Bool.{Bool, true, false, _&&_, cond}
 use mathlib.Core.List.{List}

@@ -7,13 +7,13 @@ use Prim.Native.Nat.{ℕ, zero, suc, _+_, _*_, _/_, _%_, _≤_, _<_}
 use mathlib.Core.Bool.{Bool, true, false, cond, _||_}
 use mathlib.Core.List.{List, [], _∷_, map, map-congr-left}
 use mathlib.Core.Logic.{inl}
-use mathlib.Core.Path.{_≡_, refl, sym, ap, _∙_, subst}
+use mathlib.Core.Path.{_≡_, refl, sym, ap, _∙_}
 use native.Mathlib.Omega.{arith}
 use native.Mathlib.Nat.{mod-eq-of-lt}
 use lib.Dec.{T, eqb, lit<}
 use lib.IntN.{ℤ, pos, negsuc, natAbs, _+ℤ_, pos-ne-negsuc}
 use lib.ListN.{getD, length}
-use lib.Ieee.{Float, nan, binary32, ofBits, round, neg, add, sub, mul, div, lt, ofInt, minus}
+use lib.Ieee.{Float, nan, binary32, ofBits, round, neg, add, sub, mul, div, lt, ofInt}
 use Rattle.ieee.specs.Constants.{plusZero, minusZero, lowest}
 use Rattle.ieee.specs.Root.{rootOf}
 use Rattle.ieee.specs.Narrow.{narrowOf}
@@ -31,13 +31,13 @@ use Rattle.spectra.specs.Changes.{Changed}
 use Rattle.ratio.specs.Ratio.{binRatios, ratioOf, correlation, energy, steps, stepsFrom}
 use Rattle.shift.specs.declared.ShiftAnswer.the-variants.{Found}
 use Rattle.shift.specs.Shift.{Winner, winner, searched, shifts, bestShift, foundOf, pattern, patternCarriers, movedBin, sumAt, scoreOf}
-use Rattle.shift.specs.Shift.{shiftCode, shiftNumber, shiftLeaves, shiftAnswer}
+use Rattle.shift.specs.Shift.{shiftCode, shiftLeaves, shiftAnswer}
 use Rattle.shift.specs.Moves.{InRange, scoreAt, BeatsAll}
 use Rattle.shift.specs.MovedBins.{moved-below}
 use Rattle.shift.specs.Moved.{pattern-laid, moved-sum}
 use Rattle.shift.specs.Facts.{shift-number}
 use Rattle.acquire.specs.Applied.{changed, applied}
-use Rattle.acquire.specs.Demand3.{Proviso, ShiftKept}
+use Rattle.acquire.specs.Demand3.{Proviso}
 use Rattle.acquire.proofs.Demand3.{demand-3}
 
 -- ---- two spectra of 2,048 bins, with some bins marked

@@ -3,7 +3,7 @@
 -- samples are spectra of one pair.
 -- Assumes nothing.
 use Prim.Native.Nat.{ℕ, suc, _+_, _*_, _/_, _%_, _≤_, _<_}
-use mathlib.Core.Bool.{Bool, cond}
+use mathlib.Core.Bool.{cond}
 use mathlib.Core.List.{List}
 use mathlib.Core.Path.{_≡_, refl, sym, ap, _∙_}
 use native.Mathlib.Nat.{add-zero, mul-comm, mul-le-mul-right, mul-assoc, suc-mul, mul-div-le, mod-eq-of-lt}

@@ -3,11 +3,10 @@
 use Prim.Native.Nat.{ℕ}
 use mathlib.Core.Bool.{cond}
 use mathlib.Core.List.{List}
-use mathlib.Core.Path.{_≡_, refl, sym, ap, _∙_}
+use mathlib.Core.Path.{_≡_, sym, ap, _∙_}
 use borrow.Author.Tests.{eq-eqb, ne-eqb}
 use lib.Dec.{eqb}
 use lib.IntN.{ℤ}
-use lib.ListN.{length}
 use lib.Ieee.{Float}
 use Rattle.params.specs.declared.ModeNumber.{ModeNumber}
 use Rattle.ofdm.specs.declared.BinLookup.{BinLookup}
@@ -22,10 +21,10 @@ use Rattle.tmcc.specs.declared.SoftTmcc.{SoftTmcc}
 use Rattle.tmcc.specs.Tmcc.{softNumber, softGiven}
 use Rattle.pilot_phase.specs.declared.PhaseAnswer.{PhaseAnswer}
 use Rattle.pilot_phase.specs.declared.PilotAnswer.{PilotAnswer}
-use Rattle.pilot_phase.specs.PilotPhase.{PhaseDetected, phaseNumber, pilotsGiven, phaseGiven, shareGiven}
+use Rattle.pilot_phase.specs.PilotPhase.{PhaseDetected, phaseNumber, pilotsGiven, phaseGiven, shareGiven, besideGiven}
 use Rattle.shift.specs.declared.ShiftAnswer.{ShiftAnswer}
 use Rattle.shift.specs.Shift.{Shifted, shiftNumber, shiftGiven}
-use Rattle.host.specs.Host.{besidePhase, CarrierBin, ContinualCount, ShiftLent, SamplesLent, GuessLent, SoftLent, PhaseLent}
+use Rattle.host.specs.Host.{CarrierBin, ContinualCount, ShiftLent, SamplesLent, GuessLent, SoftLent, PhaseLent}
 
 -- ---- an answer that is a struct with its number
 pub kept : {A : Type 0} (r code : ℕ) (x y : A) → r ≡ code → (r ≡ 0 → ⊥) → y ≡ cond (eqb code 0) x y
@@ -79,7 +78,7 @@ guess-told f m g o t x y e =
 pub phase-told : {mode : ModeNumber} {kinds : List ℕ} {xs : List Float} {r : PilotAnswer} {a : PhaseAnswer} (f p : ℕ) (s : Float) (cs : List ℕ) (l : ℕ)
     → PhaseDetected mode kinds xs r → r .answer ≡ a
     → PhaseLent mode kinds xs f p s cs l (phaseNumber a) (pilotsGiven a f) (phaseGiven a p) (shareGiven a s)
-    (besidePhase a (r .counts) cs) (besidePhase a (r .lead) l)
+    (besideGiven a (r .counts) cs) (besideGiven a (r .lead) l)
 phase-told f p s cs l h e =
     let q = sym e ∙ h .answer in
     record {
@@ -87,6 +86,6 @@ phase-told f p s cs l h e =
       found = ap (λ z. pilotsGiven z f) q;
       phase = ap (λ z. phaseGiven z p) q;
       share = ap (λ z. shareGiven z s) q;
-      counts = λ i. besidePhase (q i) (h .counts i) cs;
-      lead = λ i. besidePhase (q i) (h .lead i) l;
+      counts = λ i. besideGiven (q i) (h .counts i) cs;
+      lead = λ i. besideGiven (q i) (h .lead i) l;
     }

@@ -18,9 +18,7 @@ use Rattle.guess.specs.Samples.{samplesNumber, samplesGiven}
 use Rattle.guess.specs.Guess.{searchNumber, foundGiven, guessGiven}
 use Rattle.tmcc.specs.declared.SoftTmcc.{SoftTmcc}
 use Rattle.tmcc.specs.Tmcc.{softNumber, softGiven}
-use Rattle.pilot_phase.specs.declared.PhaseAnswer.{PhaseAnswer}
-use Rattle.pilot_phase.specs.declared.PhaseAnswer.the-variants.{Detected, Refused}
-use Rattle.pilot_phase.specs.PilotPhase.{phaseAnswer, phaseNumber, pilotsGiven, phaseGiven, shareGiven, countsAnswer, leadOf}
+use Rattle.pilot_phase.specs.PilotPhase.{phaseAnswer, phaseNumber, pilotsGiven, phaseGiven, shareGiven, besideGiven, countsAnswer, leadOf}
 use Rattle.segment_kinds.specs.SegmentKinds.{kindsCode, kindsAnswer, scoresAnswer, kindsLeaves}
 use Rattle.shift.specs.Shift.{shiftAnswer, shiftLeaves, shiftNumber, shiftGiven}
 
@@ -74,11 +72,6 @@ pub record SoftLent (a : SoftTmcc) (v : Float) (r : ℕ) (v' : Float) : Type 0 w
   pub code : r ≡ softNumber a
   pub value : v' ≡ softGiven a v
 
--- what stands beside a detected phase, or what was lent where the call is refused
-abbrev pub besidePhase : {A : Type 0} → PhaseAnswer → A → A → A
-besidePhase (Detected found) beside lent = beside
-besidePhase (Refused code) beside lent = lent
-
 -- ---- the pilot phase: f is lent for whether there are scattered pilots, p and s for the phase and its share, cs and l for counts and lead
 pub record PhaseLent (mode : ModeNumber) (kinds : List ℕ) (xs : List Float) (f p : ℕ) (s : Float) (cs : List ℕ) (l r f' p' : ℕ) (s' : Float)
     (cs' : List ℕ) (l' : ℕ) : Type 0 where
@@ -86,5 +79,5 @@ pub record PhaseLent (mode : ModeNumber) (kinds : List ℕ) (xs : List Float) (f
   pub found : f' ≡ pilotsGiven (phaseAnswer mode kinds xs) f
   pub phase : p' ≡ phaseGiven (phaseAnswer mode kinds xs) p
   pub share : s' ≡ shareGiven (phaseAnswer mode kinds xs) s
-  pub counts : cs' ≡ besidePhase (phaseAnswer mode kinds xs) (countsAnswer mode kinds xs) cs
-  pub lead : l' ≡ besidePhase (phaseAnswer mode kinds xs) (leadOf (countsAnswer mode kinds xs)) l
+  pub counts : cs' ≡ besideGiven (phaseAnswer mode kinds xs) (countsAnswer mode kinds xs) cs
+  pub lead : l' ≡ besideGiven (phaseAnswer mode kinds xs) (leadOf (countsAnswer mode kinds xs)) l

@@ -1,7 +1,7 @@
 -- What the tests on the way to a return make of the lookup's definition.
 -- Assumes nothing.
 use Prim.Native.Nat.{ℕ, _≤_, _<_}
-use mathlib.Core.Path.{_≡_, sym, ap, _∙_}
+use mathlib.Core.Path.{_≡_}
 use borrow.Author.Tests.{lt-ltb, le-ltb}
 use Rattle.params.specs.declared.Mode.{Mode}
 use Rattle.params.specs.declared.ModeNumber.{ModeNumber}

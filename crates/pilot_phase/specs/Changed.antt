@@ -10,7 +10,7 @@ use mathlib.Core.Path.{_≡_, refl, sym, ap, _∙_}
 use native.Mathlib.Omega.{arith}
 use lib.Dec.{eqb}
 use lib.ListN.{length, getD, length-map}
-use lib.Ieee.{Float, binary32, binary64, lt, mul, div, neg, ofBits}
+use lib.Ieee.{Float, binary32, lt, mul, div, neg, ofBits}
 use Rattle.ieee.specs.Constants.{plusZero}
 use Rattle.ieee.specs.Levels.{Scaled, constant}
 use Rattle.ieee.specs.Gain.{neg-scaled, constant-scaled}
@@ -22,7 +22,8 @@ use Rattle.params.specs.declared.ModeNumber.the-variants.{Known}
 use Rattle.params.specs.Params.{totalCarriers}
 use Rattle.complex.specs.Complex.{Pair, pair, product, conjugate, scaled, norm32}
 use Rattle.complex.specs.Changes.{negated, turnIf, amplified, gainBy, most, WholePair, Change}
-use Rattle.complex.specs.Turns.{turned-product, both-negated-product, turned-scaled, negated-scaled, turned-size, negated-size, norm32-same}
+use Rattle.complex.specs.Turns.{changed-product, changed-scaled, changed-norm32}
+use Rattle.complex.specs.Bounds.{gain-cases}
 use Rattle.complex.specs.Gains.{BothScaled}
 use Rattle.complex.specs.Totals.{totals}
 use Rattle.complex.specs.Bounds.{pilotLevel, pilotStepLevel, pilotEnergyLevel, part-gain, pilot-gain, pilot-step-gain}
@@ -38,21 +39,6 @@ use Rattle.pilot_phase.specs.PilotPhase.{votes, countsOf, phaseOf, phase
 use Rattle.pilot_phase.specs.Pilots.{Apart, pilots-apart, few-pilots}
 
 -- ---- one pair of pilots: signs and turns cancel
-turn-scaled : (t : Bool) (x : Pair) (r : Float) → scaled binary32 (turnIf t x) r ≡ turnIf t (scaled binary32 x r)
-turn-scaled true x r = turned-scaled binary32 x r
-turn-scaled false x r = refl
-
-turn-product : (t : Bool) (x y : Pair) → product binary32 (turnIf t x) (conjugate (turnIf t y)) ≡ product binary32 x (conjugate y)
-turn-product true x y = turned-product binary32 x y
-turn-product false x y = refl
-
-turn-norm : (t : Bool) (x : Pair) → norm32 (turnIf t x) ≡ norm32 x
-turn-norm true x = norm32-same _ x (turned-size binary64 x)
-turn-norm false x = refl
-
-negated-norm : (b : Bool) (x : Pair) → norm32 (negated b x) ≡ norm32 x
-negated-norm b x = norm32-same _ x (negated-size binary64 b x)
-
 -- a negation and a quarter turn are rotations: z is y rotated so
 module _ (mode : Mode) (b t : Bool) (y z : ℕ → Pair) where
   abbrev RotatedAt : ℕ → Type 0
@@ -62,19 +48,17 @@ module _ (mode : Mode) (b t : Bool) (y z : ℕ → Pair) where
   unfolding timesPilot
   rotated-pilot k h =
       let r = pilotValue (getD (bandSigns mode) k 0) .re in
-      ap (λ (x : Pair). scaled binary32 x r) h ∙ negated-scaled binary32 b (turnIf t (y k)) r ∙ ap (negated b) (turn-scaled t (y k) r)
+      ap (λ (x : Pair). scaled binary32 x r) h ∙ changed-scaled binary32 b t (y k) r
 
   rotated-product : (a : ℕ) → RotatedAt a → RotatedAt (a + 12) → pilotProduct mode z a ≡ pilotProduct mode y a
   rotated-product a h g =
       let u = timesPilot mode y (a + 12) in
       let v = timesPilot mode y a in
       (λ i. product binary32 (rotated-pilot (a + 12) g i) (conjugate (rotated-pilot a h i)))
-      ∙ both-negated-product binary32 b (turnIf t u) (turnIf t v)
-      ∙ turn-product t u v
+      ∙ changed-product binary32 b t u v
 
   rotated-norm : (k : ℕ) → RotatedAt k → norm32 (timesPilot mode z k) ≡ norm32 (timesPilot mode y k)
-  rotated-norm k h =
-      ap norm32 (rotated-pilot k h) ∙ negated-norm b (turnIf t (timesPilot mode y k)) ∙ turn-norm t (timesPilot mode y k)
+  rotated-norm k h = ap norm32 (rotated-pilot k h) ∙ changed-norm32 b t (timesPilot mode y k)
 
   rotated-energy : (a : ℕ) → RotatedAt a → RotatedAt (a + 12) → pilotEnergy mode z a ≡ pilotEnergy mode y a
   rotated-energy a h g = λ i. mul binary32 (rotated-norm a h i) (rotated-norm (a + 12) g i)
@@ -158,12 +142,9 @@ module _ (mode : Mode) (kinds : List ℕ) (k : ℕ) (K : k ≤ most) (y : ℕ �
 gain-phase : (mode : Mode) (kinds : List ℕ) (k : ℕ) (y : ℕ → Pair)
     → (k ≡ 0) ⊎ ((k ≤ most) × ((i : ℕ) → i < totalCarriers mode → WholePair (y i)))
     → (phase : ℕ) → phase < 4 → SamePhase mode kinds y (λ i. gainBy k (y i)) phase
-gain-phase mode kinds zero y A phase P = record { metric = refl; energy = refl }
-gain-phase mode kinds (suc k) y A phase P =
-    elim A [
-      | inl z ↦ absurd (omega arith)
-      | inr w ↦ gained-phase mode kinds (suc k) (w .0) y (w .1) phase P
-    ]
+gain-phase mode kinds k y A phase P =
+    gain-cases (λ k. SamePhase mode kinds y (λ i. gainBy k (y i)) phase) k A (record { metric = refl; energy = refl })
+    (λ j K w. gained-phase mode kinds (suc j) K y w phase P)
 
 -- ---- spectra that are alike in all four phases have the same ballot
 choose-same : (f g : ℕ → Float) (best : Choice) (p n : ℕ) → ((i : ℕ) → i < p + n → f i ≡ g i) → chooseFrom f best p n ≡ chooseFrom g best p n

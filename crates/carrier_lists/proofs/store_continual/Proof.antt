@@ -3,7 +3,6 @@
 use mathlib.Core.Path.{refl}
 use lib.ListN.{length-set}
 use Rattle.carrier_lists.proofs.Stored.{tmcc-room, ac-room, cp-room, three-size, edge-room, continual-stored}
-use borrow.Author.Needs.{needs}
 use native.Mathlib.Omega.{arith}
 use Rattle.carrier_lists.proofs.store_continual.Statement.{statement}
 use Rattle.carrier_lists.proofs.store_continual.Tie as tie

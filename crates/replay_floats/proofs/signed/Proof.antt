@@ -1,6 +1,6 @@
 -- `replay_floats::signed` is safe: a number below 65,536 less 32,768 is far from both ends.
 -- Assumes nothing.
-use Prim.Native.Nat.{ℕ, _<_, _-_}
+use Prim.Native.Nat.{ℕ, _<_}
 use native.Mathlib.Decide.{decLt}
 use native.Mathlib.Omega.{arith}
 use borrow.Author.Tests.{lt-ltb, le-ltb}
