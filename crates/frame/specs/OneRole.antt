@@ -28,7 +28,6 @@ use Rattle.frame.specs.declared.CarrierRole.{CarrierRole}
 use Rattle.frame.specs.declared.CarrierRole.the-variants.{Data, Sp, Cp, Tmcc, Ac, EdgeCp}
 use Rattle.frame.specs.Roles.{OfdmSegment, roleByte, firstClaim, placeRole, segmentRoles, bandRoles, wideSegment, wide, between}
 use Rattle.frame.specs.Rules.{placeHas, bandSize, segmentIn, hasRole, carriersOf, everyRole}
-pub use Rattle.frame.specs.Roles.{firstClaim as first}
 
 -- every segment uses a row of the tables
 abbrev pub rowsBelow : List OfdmSegment → Type 0

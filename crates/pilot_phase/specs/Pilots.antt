@@ -20,8 +20,8 @@ use Rattle.params.specs.declared.SegmentKind.the-variants.{Coherent, Differenti
 use Rattle.params.specs.Params.{carriersPerSegment, totalCarriers}
 use Rattle.tables.specs.Places.{isSp, isCp, tmccOf, ac1Of, ac2Of}
 use Rattle.frame.specs.declared.CarrierRole.the-variants.{EdgeCp}
-use Rattle.frame.specs.Roles.{OfdmSegment, roleByte, placeRole, segmentRoles, bandRoles, wide}
-use Rattle.frame.specs.OneRole.{first, segment-length, band-length, wide-size}
+use Rattle.frame.specs.Roles.{firstClaim, OfdmSegment, roleByte, placeRole, segmentRoles, bandRoles, wide}
+use Rattle.frame.specs.OneRole.{segment-length, band-length, wide-size}
 use Rattle.pilot_phase.specs.Ballots.{pilots, twelveApart, pilotPairs}
 
 -- the byte of a scattered pilot
@@ -66,7 +66,7 @@ pilots-apart mode kinds phase =
 
 -- ---- the pilots of a segment
 -- a place is a pilot where the first test says so, whatever the others say
-pilot-first : (sp cp t a b : Bool) → eqb (roleByte (first sp cp t a b)) 1 ≡ sp
+pilot-first : (sp cp t a b : Bool) → eqb (roleByte (firstClaim sp cp t a b)) 1 ≡ sp
 pilot-first true cp t a b = refl
 pilot-first false true t a b = refl
 pilot-first false false true a b = refl
