@@ -1,7 +1,7 @@
 -- The continual list's four groups hold exactly the carriers of TMCC, AC, CP and the edge, each ascending, at any phase; and the number
 -- of its answer is the operation's code.
 -- Assumes nothing.
-use Prim.Native.Nat.{ℕ, zero, suc, _*_, _-_}
+use Prim.Native.Nat.{ℕ, _*_, _-_}
 use mathlib.Core.Bool.{true, false, cond, _||_}
 use mathlib.Core.List.{List, [], _∷_, _++_}
 use mathlib.Core.Path.{_≡_, refl, sym, ap, _∙_}
@@ -10,6 +10,7 @@ use native.Mathlib.Numerals.{add-one}
 use borrow.Author.Tests.{eq-eqb, ne-eqb}
 use lib.Dec.{eqb, lit<}
 use lib.ListN.{length}
+use Rattle.lists.specs.Refusals.{numbered}
 use Rattle.lists.specs.Lists.{range, select, chosen}
 use Rattle.lists.specs.Select.{select-append, select-none, Ascending, select-ascending}
 use Rattle.lists.specs.Truth.{same, same-true}
@@ -23,7 +24,7 @@ use Rattle.frame.specs.declared.CarrierRole.{CarrierRole}
 use Rattle.frame.specs.declared.CarrierRole.the-variants.{Cp, Tmcc, Ac, EdgeCp}
 use Rattle.frame.specs.Roles.{OfdmSegment, roleByte, bandRoles, wide, isTmcc, isAc, isCpByte}
 use Rattle.carrier_lists.specs.declared.ContinualList.{ContinualList}
-use Rattle.carrier_lists.specs.declared.ContinualList.the-variants.{Count, Refused}
+use Rattle.carrier_lists.specs.declared.ContinualList.the-variants.{Refused}
 use Rattle.carrier_lists.specs.CarrierLists.{continualList}
 use Rattle.carrier_lists.specs.Operations.{
   continualListCode,
@@ -109,11 +110,7 @@ pub continual-number : (mode : ModeNumber) (kinds : List ℕ) (n : ℕ)
     → continualNumber (continualListAnswer mode kinds n) ≡ continualListCode mode kinds n
 unfolding continualListAnswer continualListCode
 continual-number Unknown kinds n = refl
-continual-number (Known m) kinds n = by (continualListCode (Known m) kinds n)
-  where
-    by : (code : ℕ) → continualNumber (cond (eqb code 0) (Count (length (continualList m kinds))) (Refused code)) ≡ code
-    by zero = refl
-    by (suc code) = rw (ne-eqb (suc code) 0 (λ e. omega arith))
+continual-number (Known m) kinds n = numbered continualNumber Refused (continualListCode (Known m) kinds n) _ refl (λ k. refl)
 
 pub continual-listed : (mode : ModeNumber) (kinds out : List ℕ) (r : ContinualList) (out' : List ℕ)
     → r ≡ continualListAnswer mode kinds (length out) → out' ≡ continualListLeaves mode kinds out → ContinualListed mode kinds out r out'

@@ -1,5 +1,6 @@
 // Lists of carriers that receivers walk: the data list of frame.rs's FrameLayout, and the continual
-// list of rx/mod.rs (isdb-rs). Both are made in one walk over the band's roles for each group.
+// list of rx/mod.rs (isdb-rs). Both are made from the band's roles: the data list in one walk, the
+// continual list in one that counts and one for each of its three groups.
 ghost use mathlib.Core.Path.{_≡_};
 ghost use Prim.Native.Nat.{_<_, _≤_, _*_};
 ghost use lib.ListN.{length};

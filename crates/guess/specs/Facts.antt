@@ -9,9 +9,10 @@ use mathlib.Core.Path.{_≡_, refl, sym, ap, subst, _∙_}
 use native.Mathlib.Nat.{le-of-suc-le-suc, not-suc-le-zero}
 use native.Mathlib.Omega.{arith}
 use borrow.Author.Tests.{lt-ltb, le-leb, eqb-true, eq-eqb}
-use lib.Dec.{T, leb, ltb, eqb, eqb→eq}
+use lib.Dec.{leb, ltb, eqb}
 use lib.ListN.{length, getD}
 use lib.Ieee.{Float, binary64, lt, le}
+use Rattle.lists.specs.Refusals.{numbered}
 use Rattle.ieee.specs.Constants.{plusZero}
 use Rattle.lists.specs.Lists.{range}
 use Rattle.lists.specs.Tests.{memb}
@@ -109,14 +110,6 @@ pub found-is : (xs : List Float) (modes guards : List ℕ) (g : ModeGuess) → g
 found-is xs modes guards g e = subst (Good xs) e (search-keeps (Good xs) xs (good-offered xs) modes guards tt)
 
 -- ---- an answer's number is the number that refuses the call, and 0 where nothing does
-numbered : {A : Type 0} (number : A → ℕ) (refused : ℕ → A) (code : ℕ) (x : A) → number x ≡ 0 → ((k : ℕ) → number (refused k) ≡ k)
-    → number (cond (eqb code 0) x (refused code)) ≡ code
-numbered number refused code x z r = by (eqb code 0) (eqb→eq code 0)
-  where
-    by : (b : Bool) → (T b → code ≡ 0) → number (cond b x (refused code)) ≡ code
-    by true f = z ∙ sym (f tt)
-    by false f = r code
-
 pub samples-number : (modes guards : List ℕ) (symbols : ℕ) → samplesNumber (samplesAnswer modes guards symbols) ≡ samplesCode modes guards symbols
 unfolding samplesAnswer
 samples-number modes guards symbols = numbered samplesNumber needed.Refused (samplesCode modes guards symbols) _ refl (λ k. refl)

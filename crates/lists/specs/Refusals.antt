@@ -5,7 +5,7 @@ use mathlib.Core.Bool.{Bool, true, false, cond}
 use mathlib.Core.Path.{_≡_, refl, sym, ap, _∙_}
 use native.Mathlib.Omega.{arith}
 use borrow.Author.Tests.{eq-eqb, ne-eqb}
-use lib.Dec.{eqb}
+use lib.Dec.{T, eqb, eqb→eq}
 
 -- the number that refuses an input which fails the test; else what the later tests say
 abbrev pub unless : Bool → ℕ → ℕ → ℕ
@@ -44,3 +44,12 @@ module _ (f : ℕ → ℕ) (F : InFront f) (code later : ℕ) (own : code ≡ f 
 
   pub let-pass : code ≡ 0 → f later ≡ later
   let-pass z = F later ∙ rw (← own, eq-eqb code 0 z)
+
+-- ---- an answer that is the number's refusal, or else x: its number is that number, where x has 0
+pub numbered : {A : Type 0} (number : A → ℕ) (refused : ℕ → A) (code : ℕ) (x : A) → number x ≡ 0 → ((k : ℕ) → number (refused k) ≡ k)
+    → number (cond (eqb code 0) x (refused code)) ≡ code
+numbered number refused code x z r = by (eqb code 0) (eqb→eq code 0)
+  where
+    by : (b : Bool) → (T b → code ≡ 0) → number (cond b x (refused code)) ≡ code
+    by true f = z ∙ sym (f tt)
+    by false f = r code

@@ -2,13 +2,13 @@
 -- into its place in the band and its place in the segment. Beside it, a carrier's bin by subtraction, and the lookup's number.
 -- Assumes nothing.
 use Prim.Native.Nat.{ℕ, _+_, _*_, _-_, _<_, _≤_}
-use mathlib.Core.Bool.{Bool, true, false}
 use mathlib.Core.Path.{_≡_, refl, ap, _∙_}
 use native.Mathlib.Omega.{arith}
 use native.Mathlib.Nat.{suc-mul, mul-le-mul-right, mod-eq-of-lt, add-mod-right}
 use borrow.Author.Tests.{ltb-true, eqb-true}
 use lib.Arith.{digits-lt}
 use lib.Dec.{eqb, ltb}
+use Rattle.lists.specs.Refusals.{numbered}
 use Rattle.lists.specs.Tests.{allBelow-at}
 use Rattle.params.specs.declared.Mode.{Mode}
 use Rattle.params.specs.declared.ModeNumber.{ModeNumber}
@@ -16,6 +16,7 @@ use Rattle.params.specs.declared.ModeNumber.the-variants.{Known, Unknown}
 use Rattle.params.specs.Params.{carriersPerSegment, totalCarriers, fftSize}
 use Rattle.params.specs.Laws.{sized}
 use Rattle.ofdm.specs.declared.BinLookup.{BinLookup}
+use Rattle.ofdm.specs.declared.BinLookup.the-variants.{Refused}
 use Rattle.ofdm.specs.Band.{segmentAt, placeOf, centerCarrier, binOf, binCode, binLookup, binNumber, BinLookedUp}
 
 pub segment-below : (place : ℕ) → place < 13 → segmentAt place < 13
@@ -56,11 +57,7 @@ bin-below m k h =
 pub bin-number : (mode : ModeNumber) (k : ℕ) → binNumber (binLookup mode k) ≡ binCode mode k
 unfolding binLookup
 bin-number Unknown k = refl
-bin-number (Known m) k = by (ltb k (totalCarriers m)) refl
-  where
-    by : (b : Bool) → ltb k (totalCarriers m) ≡ b → binNumber (binLookup (Known m) k) ≡ binCode (Known m) k
-    by true e = rw e
-    by false e = rw e
+bin-number (Known m) k = numbered binNumber Refused (binCode (Known m) k) _ refl (λ k. refl)
 
 pub bin-looked-up : (mode : ModeNumber) (k : ℕ) (r : BinLookup) → r ≡ binLookup mode k → BinLookedUp mode k r
 bin-looked-up mode k r e = record { number = ap binNumber e ∙ bin-number mode k; answer = e }

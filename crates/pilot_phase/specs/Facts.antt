@@ -14,6 +14,7 @@ use borrow.Author.Tests.{leb-true, leb-false, ltb-true, ltb-false, eq-eqb, ne-eq
 use lib.Dec.{eqb, leb, ltb, lit<}
 use lib.ListN.{getD, length}
 use lib.Ieee.{Float, binary32, div, ofInt, ofBits}
+use Rattle.lists.specs.Refusals.{numbered}
 use Rattle.ieee.specs.Constants.{plusZero}
 use Rattle.lists.specs.Select.{length-upTo, getD-upTo, upTo-same, chosen-ascending}
 use Rattle.lists.specs.Tests.{agree, memb}
@@ -39,11 +40,7 @@ use Rattle.pilot_phase.specs.Pilots.{isPilot, pilots-leave, apart-member
 pub phase-number : (mode : ModeNumber) (kinds : List ℕ) (xs : List Float) → phaseNumber (phaseAnswer mode kinds xs) ≡ phaseCode mode kinds (length xs)
 unfolding phaseAnswer phaseCode
 phase-number Unknown kinds xs = refl
-phase-number (Known m) kinds xs = let code = phaseCode (Known m) kinds (length xs) in by code (eqb code 0) refl
-  where
-    by : (code : ℕ) (accepted : Bool) → eqb code 0 ≡ accepted → phaseNumber (cond accepted (Detected (detected m kinds xs)) (Refused code)) ≡ code
-    by code true e = sym (eqb-true code 0 e)
-    by code false e = refl
+phase-number (Known m) kinds xs = numbered phaseNumber Refused (phaseCode (Known m) kinds (length xs)) _ refl (λ k. refl)
 
 -- so a refusal's number is never 0
 pub refused-number : (mode : ModeNumber) (kinds : List ℕ) (xs : List Float) (n : ℕ) → phaseAnswer mode kinds xs ≡ Refused n → n ≡ 0 → ⊥

@@ -8,15 +8,16 @@
 -- call tells the winner and leaves the ratios.
 -- Assumes nothing.
 use Prim.Native.Nat.{ℕ, _+_, _*_, _<_}
-use mathlib.Core.Bool.{Bool, true, false, cond}
+use mathlib.Core.Bool.{true, false}
 use mathlib.Core.List.{List}
 use mathlib.Core.Logic.{inl, inr}
 use mathlib.Core.Path.{_≡_, refl, sym, ap, _∙_, subst}
 use native.Mathlib.Omega.{arith}
-use lib.Dec.{T, eqb, eqb→eq}
+use lib.Dec.{T}
 use lib.IntN.{ℤ, pos}
 use lib.Ieee.{Float, minus, lt, le, isNan}
 use lib.ListN.{length}
+use Rattle.lists.specs.Refusals.{numbered}
 use Rattle.ieee.specs.Constants.{lowest}
 use Rattle.ieee.specs.Numbers.{same-bool}
 use Rattle.ieee.specs.Order.{le-self}
@@ -26,7 +27,6 @@ use Rattle.params.specs.declared.ModeNumber.{ModeNumber}
 use Rattle.params.specs.declared.ModeNumber.the-variants.{Known, Unknown}
 use Rattle.params.specs.Params.{fftSize}
 use Rattle.ratio.specs.Ratio.{binRatios}
-use Rattle.shift.specs.declared.FoundShift.{FoundShift}
 use Rattle.shift.specs.declared.ShiftAnswer.the-variants.{Found, Refused}
 use Rattle.shift.specs.Shift.{winner, sumAt, bestShift, foundOf, patternCarriers, pattern, shiftCode, shiftLeaves, shiftAnswer, shiftNumber}
 use Rattle.shift.specs.Searches.{found-kind, found-most, found-first, found-nan}
@@ -75,14 +75,7 @@ pub shift-number : (mode : ModeNumber) (xs : List Float) (bound room : ℕ)
     → shiftNumber (shiftAnswer mode xs bound room) ≡ shiftCode mode (length xs) room bound
 unfolding shiftAnswer shiftCode
 shift-number Unknown xs bound room = refl
-shift-number (Known m) xs bound room = by (shiftCode (Known m) (length xs) room bound) _
-  where
-    by : (code : ℕ) (found : FoundShift) → shiftNumber (cond (eqb code 0) (Found found) (Refused code)) ≡ code
-    by code found = pick (eqb code 0) (eqb→eq code 0)
-      where
-        pick : (b : Bool) → (T b → code ≡ 0) → shiftNumber (cond b (Found found) (Refused code)) ≡ code
-        pick true z = sym (z tt)
-        pick false z = refl
+shift-number (Known m) xs bound room = numbered shiftNumber Refused (shiftCode (Known m) (length xs) room bound) _ refl (λ k. refl)
 
 -- what an accepted call answers, and what it leaves
 module _ (m : Mode) (xs old : List Float) (bound : ℕ) (accepted : shiftCode (Known m) (length xs) (length old) bound ≡ 0) where

@@ -10,9 +10,10 @@ use native.Mathlib.Nat.{zero-add}
 use native.Mathlib.Omega.{arith}
 use borrow.Author.Tests.{eq-eqb, ne-eqb, le-leb, leb-true, ltb-true}
 use lib.Arith.{digits-div}
-use lib.Dec.{T, eqb, leb, ltb, eqb→eq, lit<}
+use lib.Dec.{eqb, leb, ltb, lit<}
 use lib.Ieee.{Float}
 use lib.ListN.{getD, length}
+use Rattle.lists.specs.Refusals.{numbered}
 use Rattle.ieee.specs.Constants.{minusZero}
 use Rattle.ieee.specs.Sums.{total}
 use Rattle.lists.specs.Lists.{upTo, range, joined, select, chosen}
@@ -36,19 +37,14 @@ use Rattle.frame.specs.Rules.{placeHas}
 use Rattle.frame.specs.OneRole.{place-has}
 use Rattle.frame.specs.BySegment.{by-segment}
 use Rattle.tmcc.specs.Tmcc.{passes, placeTmcc, tmccCarriers, softValue, twoSpectraCode, softCode, softAnswer, softNumber}
-use Rattle.tmcc.specs.declared.SoftTmcc.the-variants.{Value, Refused}
+use Rattle.tmcc.specs.declared.SoftTmcc.the-variants.{Refused}
 
 -- an answer's number is the number that refuses the call, and 0 where nothing does
 pub soft-number : (mode : ModeNumber) (kinds : List ℕ) (xs : List Float) (filter : ℕ)
     → softNumber (softAnswer mode kinds xs filter) ≡ softCode mode kinds (length xs) filter
 unfolding softAnswer softCode twoSpectraCode
 soft-number Unknown kinds xs filter = refl
-soft-number (Known m) kinds xs filter =
-    let code = softCode (Known m) kinds (length xs) filter in by code (eqb code 0) (eqb→eq code 0)
-  where
-    by : (code : ℕ) (b : Bool) → (T b → code ≡ 0) → softNumber (cond b (Value (softValue m kinds filter xs)) (Refused code)) ≡ code
-    by code true f = sym (f tt)
-    by code false f = refl
+soft-number (Known m) kinds xs filter = numbered softNumber Refused (softCode (Known m) kinds (length xs) filter) _ refl (λ k. refl)
 
 -- a filter that no segment passes gives -0.0
 pub nothing-passes : (mode : Mode) (kinds : List ℕ) (filter : ℕ) (xs : List Float)
