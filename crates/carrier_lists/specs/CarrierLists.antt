@@ -1,5 +1,5 @@
 -- The data list and the continual list of document 01, from the roles of a band.
--- Assumes nothing.
+-- Definitions only.
 use Prim.Native.Nat.{ℕ, _-_}
 use mathlib.Core.List.{List, [], _∷_, _++_}
 use lib.ListN.{length, drop}

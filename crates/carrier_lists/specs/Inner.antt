@@ -1,5 +1,5 @@
 -- What the inner functions store and take on the way to an operation's answer. No operation's contract cites these.
--- Assumes nothing.
+-- Definitions only.
 use Prim.Native.Nat.{ℕ, _+_, _≤_, _<_}
 use mathlib.Core.Bool.{cond}
 use mathlib.Core.List.{List}

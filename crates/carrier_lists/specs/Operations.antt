@@ -1,5 +1,5 @@
 -- What the data list and the continual list answer and what they leave in the lent buffer, for every input.
--- Assumes nothing.
+-- Definitions only.
 use Prim.Native.Nat.{ℕ, _*_}
 use mathlib.Core.Bool.{cond}
 use mathlib.Core.List.{List}

@@ -4,13 +4,12 @@
 use Prim.Native.Nat.{ℕ, zero, suc}
 use mathlib.Core.Bool.{Bool, cond}
 use lib.Ieee.{neg, binary32}
-use Rattle.ieee.specs.Signs.{flip}
 use Rattle.ieee.specs.Levels.{Whole, two}
 use Rattle.complex.specs.Complex.{Pair, pair, scaled}
 
 -- both parts with the other sign, or as they are
 abbrev pub negated : Bool → Pair → Pair
-negated b x = pair (flip b (x .re)) (flip b (x .im))
+negated b x = pair (cond b (neg (x .re)) (x .re)) (cond b (neg (x .im)) (x .im))
 
 -- a quarter turn makes (a, b) into (-b, a)
 abbrev pub turned : Pair → Pair

@@ -1,6 +1,6 @@
 -- What the inner functions write and take on the way to an operation's answer. No operation's contract cites these; the laws that lead
 -- from them to `Roles` are in proofs/.
--- Assumes nothing.
+-- Definitions only.
 use Prim.Native.Nat.{ℕ, _≤_, _<_}
 use mathlib.Core.Bool.{Bool, false}
 use mathlib.Core.List.{List, [], _∷_}

@@ -1,6 +1,6 @@
 -- What an operation on a layout answers and what it leaves in its lent buffer, for every input. A mode comes as a number from outside,
 -- so the first case of each definition is the number that is no mode.
--- Assumes nothing.
+-- Definitions only.
 use Prim.Native.Nat.{ℕ}
 use mathlib.Core.Bool.{Bool, cond, _&&_}
 use mathlib.Core.List.{List}

@@ -1,5 +1,5 @@
 -- The role of each carrier (ARIB STD-B31, Figures 3-29 and 3-30, Tables 3-14 and 3-15), of a segment and of a band.
--- Assumes nothing.
+-- Definitions only.
 use Prim.Native.Nat.{ℕ}
 use mathlib.Core.Bool.{Bool, cond, _&&_}
 use mathlib.Core.List.{List, [], _∷_, _++_, map}

@@ -1,6 +1,6 @@
 -- Each role's own rule, which looks at no other role but for data, and the carriers of a band that have a role. `OneRole` proves that the
 -- rules never meet and leave no carrier out.
--- Assumes nothing.
+-- Definitions only.
 use Prim.Native.Nat.{ℕ, _+_, _*_, _/_, _%_}
 use mathlib.Core.Bool.{Bool, false, cond, not, _||_}
 use mathlib.Core.List.{List, [], _∷_}

@@ -1,5 +1,5 @@
 -- Lists that definitions are made of: a function's values in order, parts one behind another, the numbers that pass a test.
--- Assumes nothing.
+-- Definitions only.
 use Prim.Native.Nat.{ℕ, zero, suc, _+_}
 use mathlib.Core.Bool.{Bool, cond}
 use mathlib.Core.List.{List, [], _∷_, _++_}

@@ -1,5 +1,5 @@
 -- Segments by their place in the band (ARIB STD-B31, Figure 3-32), and a carrier's FFT bin (3.14.1).
--- Assumes nothing.
+-- Definitions only.
 use Prim.Native.Nat.{ℕ, _+_, _*_, _-_, _/_, _%_, _<_}
 use mathlib.Core.Bool.{cond}
 use mathlib.Core.List.{List, [], _∷_}

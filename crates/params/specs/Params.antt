@@ -1,5 +1,5 @@
 -- Document 01's codes of modes, guards and kinds, and its sizes of a mode (ARIB STD-B31, Tables 3-1 and 3-2).
--- Assumes nothing.
+-- Definitions only.
 use Prim.Native.Nat.{ℕ}
 use mathlib.Core.Bool.{cond}
 use lib.Dec.{eqb}

@@ -1,5 +1,5 @@
 -- What the sign map answers and what it leaves in its lent buffer, for every input.
--- Assumes nothing.
+-- Definitions only.
 use Prim.Native.Nat.{ℕ}
 use mathlib.Core.Bool.{cond}
 use mathlib.Core.List.{List}

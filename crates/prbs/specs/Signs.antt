@@ -1,6 +1,6 @@
 -- The pilot signs (ARIB STD-B31, 3.13.1, Figure 3-31, Tables 3-16, 3-17 and 3-19): a register of x^11 + x^9 + 1, loaded afresh for
 -- each segment.
--- Assumes nothing.
+-- Definitions only.
 use Prim.Native.Nat.{ℕ, zero, suc, _/_, _%_}
 use mathlib.Core.Bool.{cond}
 use mathlib.Core.List.{List, [], _∷_, _++_}

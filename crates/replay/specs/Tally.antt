@@ -1,5 +1,5 @@
 -- What a tally counts: entries that were compared, and those of them that are not the same on both sides.
--- Assumes nothing.
+-- Definitions only.
 use Prim.Native.Nat.{ℕ, zero, suc, _+_, _*_}
 use mathlib.Core.Bool.{Bool, _&&_, cond}
 use mathlib.Core.List.{List}

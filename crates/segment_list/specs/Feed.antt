@@ -1,5 +1,5 @@
 -- Bytes of the input that are taken: what they print is stored, and the line that is open then is held.
--- Assumes nothing.
+-- Definitions only.
 use Prim.Native.Nat.{ℕ, _+_, _≤_, _<_}
 use mathlib.Core.List.{List}
 use lib.ListN.{length}

@@ -1,6 +1,6 @@
 -- A line of any length held in bounded memory: its first 17 bytes, and how many it has, where 18 stands for more. What such a line gives
 -- is decided by its two fields, whatever they hold.
--- Assumes nothing.
+-- Definitions only.
 use Prim.Native.Nat.{ℕ, _+_, min}
 use mathlib.Core.Bool.{cond}
 use mathlib.Core.List.{List, [], _∷_, _++_}

@@ -1,5 +1,5 @@
 -- A question that is answered, and the line of a segment in the pieces in which it is stored.
--- Assumes nothing.
+-- Definitions only.
 use Prim.Native.Nat.{ℕ, _<_}
 use mathlib.Core.Bool.{true}
 use mathlib.Core.List.{List, [], _∷_, _++_}

@@ -1,5 +1,5 @@
 -- The segment list of document 01: what is printed for a line of the input, and for the whole input, as bytes.
--- Assumes nothing.
+-- Definitions only.
 use Prim.Native.Nat.{ℕ, _+_, _*_, _-_}
 use mathlib.Core.Bool.{Bool, cond, _&&_, _||_}
 use mathlib.Core.List.{List, [], _∷_, _++_, map}

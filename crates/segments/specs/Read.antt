@@ -1,5 +1,5 @@
 -- What a read returned says of the input.
--- Assumes nothing.
+-- Definitions only.
 use mathlib.Core.Bool.{cond}
 use lib.Dec.{eqb}
 use lib.IntN.{ℤ, pos, negsuc}

@@ -1,6 +1,6 @@
 -- The places of a segment that carry pilots, TMCC, AC1 and AC2, by mode, kind, row and phase (ARIB STD-B31, Figures 3-29 and 3-30,
 -- Tables 3-14 and 3-15).
--- Assumes nothing.
+-- Definitions only.
 use Prim.Native.Nat.{ℕ, _+_, _-_, _*_, _%_}
 use mathlib.Core.Bool.{Bool, false, cond}
 use mathlib.Core.List.{List, []}

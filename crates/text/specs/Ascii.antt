@@ -1,5 +1,5 @@
 -- Text written as a quoted text of ASCII, for examples.
--- Assumes nothing.
+-- Definitions only.
 use Prim.Native.Nat.{ℕ}
 use Prim.Native.Char.{code}
 use Prim.Native.String.{String, [], _∷_}

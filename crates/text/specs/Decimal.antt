@@ -1,5 +1,5 @@
 -- Numbers as decimal digits, in ASCII.
--- Assumes nothing.
+-- Definitions only.
 use Prim.Native.Nat.{ℕ, _+_, _/_, _%_}
 use mathlib.Core.Bool.{cond}
 use mathlib.Core.List.{List, [], _∷_, _++_}
