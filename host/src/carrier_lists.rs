@@ -53,16 +53,12 @@ pub fn data_list_lent(
     kinds: &Kinds,
     out: &mut [u32],
 ) -> Result<(), Refusal> {
-    accepted(unsafe {
-        ffi::sillurwy_data_list(
-            mode.number(),
-            phase.number(),
-            kind_codes(kinds),
-            kinds.len(),
-            out.as_mut_ptr(),
-            out.len(),
-        )
-    })
+    accepted(ffi::data_list(
+        mode.number(),
+        phase.number(),
+        &kind_codes(kinds),
+        out,
+    ))
 }
 
 /// The continual carriers: all TMCC, then all AC, then all CP, each ascending, then the edge.
@@ -101,15 +97,11 @@ pub fn continual_list(mode: Mode, kinds: &Kinds) -> Result<Vec<u32>, Refusal> {
 /// ```
 pub fn continual_list_lent(mode: Mode, kinds: &Kinds, out: &mut [u32]) -> Result<usize, Refusal> {
     let mut count = 0;
-    accepted(unsafe {
-        ffi::sillurwy_continual_list(
-            mode.number(),
-            kind_codes(kinds),
-            kinds.len(),
-            out.as_mut_ptr(),
-            out.len(),
-            &mut count,
-        )
-    })?;
+    accepted(ffi::continual_list(
+        mode.number(),
+        &kind_codes(kinds),
+        out,
+        &mut count,
+    ))?;
     Ok(count)
 }

@@ -100,20 +100,15 @@ pub fn estimate_grid_lent(
     w: usize,
     grid: &mut [f32],
 ) -> Result<(), Refusal> {
-    let code = unsafe {
-        ffi::sillurwy_estimate_grid(
-            mode.number(),
-            phase.number(),
-            kind_codes(kinds),
-            kinds.len(),
-            spectra.as_ptr(),
-            spectra.len(),
-            index,
-            w,
-            grid.as_mut_ptr(),
-            grid.len(),
-        )
-    };
+    let code = ffi::estimate_grid(
+        mode.number(),
+        phase.number(),
+        &kind_codes(kinds),
+        spectra,
+        index,
+        w,
+        grid,
+    );
     accepted(code).map_err(|refusal| match refusal {
         Refusal::BadCarrier => Refusal::BadIndex,
         Refusal::BadSymbols => Refusal::BadWindow,

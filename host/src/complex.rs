@@ -10,7 +10,7 @@ use crate::ffi;
 /// assert_eq!(sillurwy::complex::norm32(3e38, 0.0), 3e38);
 /// ```
 pub fn norm32(re: f32, im: f32) -> f32 {
-    unsafe { ffi::sillurwy_norm32(re, im) }
+    ffi::norm32(re, im)
 }
 
 /// The norm of a pair of `f64`: the root of the rounded sum of rounded squares.
@@ -19,5 +19,5 @@ pub fn norm32(re: f32, im: f32) -> f32 {
 /// assert_eq!(sillurwy::complex::norm64(3.0, 4.0), 5.0);
 /// ```
 pub fn norm64(re: f64, im: f64) -> f64 {
-    unsafe { ffi::sillurwy_norm64(re, im) }
+    ffi::norm64(re, im)
 }

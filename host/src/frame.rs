@@ -98,14 +98,10 @@ pub fn role_map_lent(
     kinds: &Kinds,
     out: &mut [u8],
 ) -> Result<(), Refusal> {
-    accepted(unsafe {
-        ffi::sillurwy_role_map(
-            mode.number(),
-            phase.number(),
-            kind_codes(kinds),
-            kinds.len(),
-            out.as_mut_ptr(),
-            out.len(),
-        )
-    })
+    accepted(ffi::role_map(
+        mode.number(),
+        phase.number(),
+        &kind_codes(kinds),
+        out,
+    ))
 }

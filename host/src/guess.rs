@@ -49,16 +49,12 @@ pub fn samples_needed(
     symbols: usize,
 ) -> Result<usize, Refusal> {
     let mut samples = 0;
-    accepted(unsafe {
-        ffi::sillurwy_samples_needed(
-            mode_codes(modes),
-            modes.len(),
-            guard_codes(guards),
-            guards.len(),
-            symbols,
-            &mut samples,
-        )
-    })?;
+    accepted(ffi::samples_needed(
+        &mode_codes(modes),
+        &guard_codes(guards),
+        symbols,
+        &mut samples,
+    ))?;
     Ok(samples)
 }
 
@@ -125,25 +121,19 @@ pub fn detect_mode_lent(
 ) -> Result<Option<ModeGuess>, Refusal> {
     let (mut found, mut mode, mut guard, mut offset) = (0, 0, 0, 0);
     let (mut metric, mut re, mut im) = (0.0, 0.0, 0.0);
-    accepted(unsafe {
-        ffi::sillurwy_detect_mode(
-            samples.as_ptr(),
-            samples.len(),
-            mode_codes(modes),
-            modes.len(),
-            guard_codes(guards),
-            guards.len(),
-            scratch.as_mut_ptr(),
-            scratch.len(),
-            &mut found,
-            &mut mode,
-            &mut guard,
-            &mut offset,
-            &mut metric,
-            &mut re,
-            &mut im,
-        )
-    })?;
+    accepted(ffi::detect_mode(
+        samples,
+        &mode_codes(modes),
+        &guard_codes(guards),
+        scratch,
+        &mut found,
+        &mut mode,
+        &mut guard,
+        &mut offset,
+        &mut metric,
+        &mut re,
+        &mut im,
+    ))?;
     if found == 0 {
         return Ok(None);
     }

@@ -9,7 +9,7 @@ use crate::ffi;
 /// assert!(sillurwy::ieee::root(-1.0).is_nan());
 /// ```
 pub fn root(x: f64) -> f64 {
-    unsafe { ffi::sillurwy_root(x) }
+    ffi::root(x)
 }
 
 /// The `f32` nearest to a number; a tie goes to the even one.
@@ -19,5 +19,5 @@ pub fn root(x: f64) -> f64 {
 /// assert_eq!(sillurwy::ieee::narrow(1e300), f32::INFINITY);
 /// ```
 pub fn narrow(x: f64) -> f32 {
-    unsafe { ffi::sillurwy_narrow(x) }
+    ffi::narrow(x)
 }

@@ -20,7 +20,7 @@
 //!
 //! An operation answers, or gives a [`Refusal`] and leaves everything lent as it was. Where an
 //! operation needs a buffer, a function of its name makes one of the right size, and a second one,
-//! whose name ends in `_lent`, takes the caller's, so that many calls need no new memory.
+//! whose name ends in `_lent`, takes the caller's, so that many calls need no new buffer.
 //!
 //! Spectra and samples are floats, real and imaginary part in turn; spectra lie one behind another.
 //!
@@ -37,11 +37,13 @@
 //! # Ok::<(), sillurwy::Refusal>(())
 //! ```
 #![deny(missing_docs)]
-#![deny(unsafe_op_in_unsafe_fn)]
+// What is unsafe is written by dev/declare, in `ffi` alone.
+#![deny(unsafe_code)]
 
 pub mod carrier_lists;
 pub mod chanest;
 pub mod complex;
+#[allow(unsafe_code)]
 #[doc(hidden)]
 pub mod ffi;
 pub mod frame;

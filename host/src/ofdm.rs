@@ -27,6 +27,6 @@ pub struct FftBin(pub usize);
 /// ```
 pub fn carrier_bin(mode: Mode, k: BandCarrier) -> Result<FftBin, Refusal> {
     let mut bin = 0;
-    accepted(unsafe { ffi::sillurwy_carrier_bin(mode.number(), k.0, &mut bin) })?;
+    accepted(ffi::carrier_bin(mode.number(), k.0, &mut bin))?;
     Ok(FftBin(bin))
 }

@@ -239,19 +239,18 @@ impl Phase {
     }
 }
 
-// Modes, guard intervals and kinds have the size of a byte and are their codes, so a list of them is
-// lent as it is.
+// The C functions take lists of codes.
 
-pub(crate) fn mode_codes(modes: &[Mode]) -> *const u8 {
-    modes.as_ptr().cast()
+pub(crate) fn mode_codes(modes: &[Mode]) -> Vec<u8> {
+    modes.iter().map(|mode| mode.number()).collect()
 }
 
-pub(crate) fn guard_codes(guards: &[GuardInterval]) -> *const u8 {
-    guards.as_ptr().cast()
+pub(crate) fn guard_codes(guards: &[GuardInterval]) -> Vec<u8> {
+    guards.iter().map(|guard| guard.denominator()).collect()
 }
 
-pub(crate) fn kind_codes(kinds: &Kinds) -> *const u8 {
-    kinds.as_ptr().cast()
+pub(crate) fn kind_codes(kinds: &Kinds) -> [u8; SEGMENTS] {
+    kinds.map(SegmentKind::code)
 }
 
 #[cfg(test)]

@@ -51,20 +51,16 @@ pub struct PilotAnswer {
 pub fn detect_sp_phase(mode: Mode, kinds: &Kinds, spectra: &[f32]) -> Result<PilotAnswer, Refusal> {
     let (mut found, mut number, mut share) = (0, 0, 0.0);
     let (mut counts, mut lead) = ([0; 4], 0);
-    accepted(unsafe {
-        ffi::sillurwy_detect_sp_phase(
-            mode.number(),
-            kind_codes(kinds),
-            kinds.len(),
-            spectra.as_ptr(),
-            spectra.len(),
-            &mut found,
-            &mut number,
-            &mut share,
-            &mut counts,
-            &mut lead,
-        )
-    })?;
+    accepted(ffi::detect_sp_phase(
+        mode.number(),
+        &kind_codes(kinds),
+        spectra,
+        &mut found,
+        &mut number,
+        &mut share,
+        &mut counts,
+        &mut lead,
+    ))?;
     let phase = match found {
         0 => PilotPhase::NoScatteredPilots,
         _ => PilotPhase::Phase(Phase::from_number(number)?, share),

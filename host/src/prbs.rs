@@ -37,5 +37,5 @@ pub fn sign_map(mode: Mode) -> Result<Vec<u8>, Refusal> {
 /// # Ok::<(), Refusal>(())
 /// ```
 pub fn sign_map_lent(mode: Mode, out: &mut [u8]) -> Result<(), Refusal> {
-    accepted(unsafe { ffi::sillurwy_sign_map(mode.number(), out.as_mut_ptr(), out.len()) })
+    accepted(ffi::sign_map(mode.number(), out))
 }

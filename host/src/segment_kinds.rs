@@ -58,17 +58,13 @@ pub fn detect_kinds_lent(
     ratios: &mut [f32],
 ) -> Result<DetectedKinds, Refusal> {
     let (mut codes, mut scores) = ([0; SEGMENTS], [0.0; SEGMENTS]);
-    accepted(unsafe {
-        ffi::sillurwy_detect_kinds(
-            mode.number(),
-            spectra.as_ptr(),
-            spectra.len(),
-            ratios.as_mut_ptr(),
-            ratios.len(),
-            &mut codes,
-            &mut scores,
-        )
-    })?;
+    accepted(ffi::detect_kinds(
+        mode.number(),
+        spectra,
+        ratios,
+        &mut codes,
+        &mut scores,
+    ))?;
     let kinds = kinds_from_codes(&codes)?;
     Ok(DetectedKinds { kinds, scores })
 }

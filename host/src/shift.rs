@@ -65,17 +65,13 @@ pub fn integer_cfo_lent(
     ratios: &mut [f32],
 ) -> Result<Shift, Refusal> {
     let (mut shift, mut score) = (0, 0.0);
-    accepted(unsafe {
-        ffi::sillurwy_integer_cfo(
-            mode.number(),
-            spectra.as_ptr(),
-            spectra.len(),
-            bound,
-            ratios.as_mut_ptr(),
-            ratios.len(),
-            &mut shift,
-            &mut score,
-        )
-    })?;
+    accepted(ffi::integer_cfo(
+        mode.number(),
+        spectra,
+        bound,
+        ratios,
+        &mut shift,
+        &mut score,
+    ))?;
     Ok(Shift { shift, score })
 }

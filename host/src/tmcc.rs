@@ -29,16 +29,12 @@ pub fn tmcc_soft(
 ) -> Result<f32, Refusal> {
     const ALL: u8 = 2;
     let mut value = 0.0;
-    accepted(unsafe {
-        ffi::sillurwy_tmcc_soft(
-            mode.number(),
-            kind_codes(kinds),
-            kinds.len(),
-            spectra.as_ptr(),
-            spectra.len(),
-            filter.map_or(ALL, SegmentKind::code),
-            &mut value,
-        )
-    })?;
+    accepted(ffi::tmcc_soft(
+        mode.number(),
+        &kind_codes(kinds),
+        spectra,
+        filter.map_or(ALL, SegmentKind::code),
+        &mut value,
+    ))?;
     Ok(value)
 }
