@@ -1,11 +1,12 @@
 //! The checked values and the sample output of the requirement, on the oracle itself.
 
-use oracle::answers;
 use oracle::codes::{KINDS, MODES, kind_bytes, kinds_of_choice};
+use oracle::inputs::questions::every_question;
 use oracle::isdb::frame::{FrameLayout, PILOT_AMPLITUDE, pilot_value};
 use oracle::isdb::ofdm_params::{segment_at_position, segment_position};
 use oracle::isdb::params::{GuardInterval, Mode, SEGMENTS};
-use oracle::segment_list::{answer, every_question, lines};
+use oracle::ops::segments::{answer, lines};
+use oracle::ops::{carrier_bin, continual_list, data_list, role_map, sign_map};
 
 /// Kind bytes with only the given segment differential.
 fn only_differential(segment: usize) -> [u8; SEGMENTS] {
@@ -33,25 +34,25 @@ fn sizes_of_the_modes() {
 
 #[test]
 fn bins_of_mode_1() {
-    assert_eq!(answers::carrier_bin(1, 0), Ok(vec![1346]));
-    assert_eq!(answers::carrier_bin(1, 702), Ok(vec![0]));
-    assert_eq!(answers::carrier_bin(1, 1404), Ok(vec![702]));
-    assert_eq!(answers::carrier_bin(1, 1405), Err(4));
-    assert_eq!(answers::carrier_bin(0, 1405), Err(1));
+    assert_eq!(carrier_bin::answer(1, 0), Ok(1346));
+    assert_eq!(carrier_bin::answer(1, 702), Ok(0));
+    assert_eq!(carrier_bin::answer(1, 1404), Ok(702));
+    assert_eq!(carrier_bin::answer(1, 1405), Err(4));
+    assert_eq!(carrier_bin::answer(0, 1405), Err(1));
 }
 
 #[test]
 fn roles_of_mode_1() {
-    let roles = answers::role_map(1, 0, &[0; 13], 1405).unwrap();
+    let roles = role_map::answer(1, 0, &[0; 13], 1405).unwrap();
     assert_eq!([648, 683, 697].map(|k| roles[k]), [1, 4, 3]);
     assert_eq!(roles[1404], 6);
-    let roles = answers::role_map(1, 0, &only_differential(0), 1405).unwrap();
+    let roles = role_map::answer(1, 0, &only_differential(0), 1405).unwrap();
     assert_eq!([648, 651].map(|k| roles[k]), [2, 5]);
 }
 
 #[test]
 fn signs_of_mode_1() {
-    let signs = answers::sign_map(1, 1405).unwrap();
+    let signs = sign_map::answer(1, 1405).unwrap();
     let start = [[1; 11].as_slice(), &[0; 9], &[1; 2]].concat();
     assert_eq!(signs[..22], start);
     assert_eq!(signs[1404], 1);
@@ -63,27 +64,27 @@ fn signs_of_mode_1() {
 fn signs_are_those_of_the_layout() {
     for mode in MODES {
         let layout = FrameLayout::new(mode, kinds_of_choice(0));
-        assert_eq!(answers::signs(mode), layout.w);
+        assert_eq!(sign_map::signs(mode), layout.w);
     }
 }
 
 #[test]
 fn refusals_come_in_their_order() {
     let bad_kinds = [2; 13];
-    assert_eq!(answers::role_map(0, 4, &bad_kinds, 0), Err(1));
-    assert_eq!(answers::role_map(1, 4, &bad_kinds, 0), Err(2));
-    assert_eq!(answers::role_map(1, 4, &[0; 13], 0), Err(3));
-    assert_eq!(answers::role_map(1, 3, &[0; 13], 0), Err(7));
-    assert_eq!(answers::data_list(0, 4, &bad_kinds, 0), Err(1));
-    assert_eq!(answers::data_list(1, 4, &bad_kinds, 0), Err(2));
-    assert_eq!(answers::data_list(1, 4, &[0; 13], 0), Err(3));
-    assert_eq!(answers::data_list(1, 3, &[0; 13], 1247), Err(7));
-    assert_eq!(answers::continual_list(0, &bad_kinds, 0), Err(1));
-    assert_eq!(answers::continual_list(1, &bad_kinds, 0), Err(2));
-    assert_eq!(answers::continual_list(1, &[0; 13], 39), Err(7));
-    assert!(answers::continual_list(1, &[0; 13], 40).is_ok());
-    assert_eq!(answers::sign_map(4, 0), Err(1));
-    assert_eq!(answers::sign_map(3, 2809), Err(7));
+    assert_eq!(role_map::answer(0, 4, &bad_kinds, 0), Err(1));
+    assert_eq!(role_map::answer(1, 4, &bad_kinds, 0), Err(2));
+    assert_eq!(role_map::answer(1, 4, &[0; 13], 0), Err(3));
+    assert_eq!(role_map::answer(1, 3, &[0; 13], 0), Err(7));
+    assert_eq!(data_list::answer(0, 4, &bad_kinds, 0), Err(1));
+    assert_eq!(data_list::answer(1, 4, &bad_kinds, 0), Err(2));
+    assert_eq!(data_list::answer(1, 4, &[0; 13], 0), Err(3));
+    assert_eq!(data_list::answer(1, 3, &[0; 13], 1247), Err(7));
+    assert_eq!(continual_list::answer(0, &bad_kinds, 0), Err(1));
+    assert_eq!(continual_list::answer(1, &bad_kinds, 0), Err(2));
+    assert_eq!(continual_list::answer(1, &[0; 13], 39), Err(7));
+    assert!(continual_list::answer(1, &[0; 13], 40).is_ok());
+    assert_eq!(sign_map::answer(4, 0), Err(1));
+    assert_eq!(sign_map::answer(3, 2809), Err(7));
 }
 
 #[test]

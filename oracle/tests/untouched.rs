@@ -2,15 +2,19 @@
 //!
 //! An infinity beside a NaN departs with every C library, since `hypot` is infinite there by rule.
 
-use oracle::acquire_calls::{Asked, Floats, GuessCall, NeededCall, PhaseCall, TmccCall};
-use oracle::acquire_cases::Cases;
-use oracle::acquire_compare::compare_random;
-use oracle::acquire_port::{LINKED, Port, RUST, write_answer};
-use oracle::float_inputs::Pair;
-use oracle::floats::{Function, Value, norm32, root};
-use oracle::grid_calls::GridCall;
+use oracle::acquire::Untouched;
+use oracle::harness::call::{Call, Floats};
+use oracle::harness::function::Function;
+use oracle::harness::run;
+use oracle::harness::value::Value;
+use oracle::inputs::floats::Pair;
 use oracle::isdb::params::{Mode, SEGMENTS};
-use oracle::untouched;
+use oracle::ops::detect_mode::GuessCall;
+use oracle::ops::detect_sp_phase::{PhaseCall, Port, answer, write};
+use oracle::ops::estimate_grid::GridCall;
+use oracle::ops::samples_needed::NeededCall;
+use oracle::ops::tmcc_soft::TmccCall;
+use oracle::ops::{norm32, root};
 
 /// The smallest pair of `f32`, by its bits, of the special ones whose `hypot` is not their norm.
 fn smallest_departing_pair() -> Pair<u32> {
@@ -19,7 +23,7 @@ fn smallest_departing_pair() -> Pair<u32> {
         untouched,
         special,
         ..
-    } = norm32();
+    } = norm32::function();
     let hypot = untouched.expect("norms have a second answer");
     let departs = |pair: &Pair<u32>| hypot(*pair).compared_bits() != rust(*pair).compared_bits();
     let smallest = special.into_iter().filter(departs).min();
@@ -33,7 +37,7 @@ fn a_departing_norm_is_no_difference() {
     assert!(pair.value().im.is_nan());
     let function = Function {
         special: vec![pair],
-        ..norm32()
+        ..norm32::function()
     };
     let row = function.compare(1, 0, 0);
     assert_eq!((row.cases(), row.differences()), (1, 0));
@@ -42,7 +46,7 @@ fn a_departing_norm_is_no_difference() {
 
 #[test]
 fn a_function_without_a_norm_is_not_asked() {
-    assert_eq!(root().compare(1, 0, 100).departures(), None);
+    assert_eq!(root::function().compare(1, 0, 100).departures(), None);
 }
 
 /// One spectrum whose first pilot is an infinity and a NaN, the next of its phase 1. With the
@@ -60,27 +64,22 @@ fn departing_phase() -> PhaseCall {
 
 #[test]
 fn a_departing_phase_is_no_difference() {
-    let outcome = departing_phase().run(&LINKED, 1);
+    let outcome = departing_phase().run(PhaseCall::LINKED, 1);
     assert_eq!((outcome.difference, outcome.departs), (None, Some(true)));
 }
 
 #[test]
 fn the_untouched_rust_in_the_place_of_the_port_differs() {
-    let port = Port {
-        detect_sp_phase: |mode, kinds, spectra, out| {
-            let answer = untouched::answers::detect_sp_phase(mode, kinds, spectra);
-            write_answer(answer, |phase| out.write(&phase))
-        },
-        ..RUST
-    };
-    let outcome = departing_phase().run(&port, 1);
+    let port: Port =
+        |mode, kinds, spectra, out| write(answer::<Untouched>(mode, kinds, spectra), out);
+    let outcome = departing_phase().run(port, 1);
     assert!(outcome.difference.is_some());
     assert_eq!(outcome.departs, Some(false));
 }
 
 /// The departures on random calls of an operation.
-fn departures<C: Cases>() -> Option<u64> {
-    let row = compare_random::<C>(&LINKED, 1, 7, 200);
+fn departures<C: Call>() -> Option<u64> {
+    let row = run::random::<C>(C::LINKED, 1, 200);
     assert_eq!(row.differences(), 0);
     row.departures()
 }

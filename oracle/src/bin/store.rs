@@ -1,30 +1,21 @@
-//! Writes a sample of the oracle's answers, for programs that compare without Rust at hand.
+//! Writes stored answers of the oracle, for programs that compare without Rust at hand.
 
-use oracle::answers;
-use oracle::args::Args;
-use oracle::codes::{KINDS, MODES, PHASES, kind_bytes, kinds_of_choice};
-use oracle::isdb::frame::FrameLayout;
-use oracle::isdb::ofdm::carrier_bin;
-use oracle::isdb::params::{Mode, SEGMENTS};
+use oracle::harness::args::Args;
+use oracle::harness::rng::Rng;
+use oracle::inputs::questions::{every_question, random_question};
+use oracle::isdb::params::SEGMENTS;
 use oracle::isdb::tables;
-use oracle::rng::Rng;
-use oracle::segment_list::{answer, every_question, lines, random_question};
-use oracle::{stored_acquire, stored_floats, stored_grid};
+use oracle::ops;
+use oracle::ops::segments::{answer, lines};
 use std::fs;
 use std::io::{self, Read, Write};
 use std::process::ExitCode;
 
 const USAGE: &str = "\
-store: write a sample of the oracle's answers
+store: write stored answers of the oracle
 
-  store [--seed N] FILE       write the binary sample of layouts to FILE
+  store FILE [--seed N]       write the stored answers of every operation to FILE
   store --tables FILE         write the tables of the standard to FILE
-  store --acquire FILE [--seed N]
-                              write the answers of acquisition to FILE
-  store --floats FILE [--seed N]
-                              write the answers of the functions of floats to FILE
-  store --grid FILE [--seed N]
-                              write the answers of the grid to FILE
   store --lines N [--seed N]  print N random questions for segments; `all` prints every one
   store --answers             print the answers to the questions on standard input
   --help                      this text
@@ -33,11 +24,8 @@ The seed is 1 unless it is given. README.md describes the binary files.";
 
 /// What to write.
 enum Task {
-    Sample(String),
+    Operations(String),
     Tables(String),
-    Acquire(String),
-    Floats(String),
-    Grid(String),
     Lines(u64),
     AllLines,
     Answers,
@@ -53,13 +41,10 @@ fn task() -> (Task, u64) {
                 continue;
             }
             "--tables" => Task::Tables(args.value("--tables")),
-            "--acquire" => Task::Acquire(args.value("--acquire")),
-            "--floats" => Task::Floats(args.value("--floats")),
-            "--grid" => Task::Grid(args.value("--grid")),
             "--answers" => Task::Answers,
             "--lines" => lines_task(&mut args),
             option if option.starts_with('-') => args.fail(format!("unknown word {option}")),
-            _ => Task::Sample(word),
+            _ => Task::Operations(word),
         };
         if task.replace(given).is_some() {
             args.fail("only one thing can be written");
@@ -83,44 +68,9 @@ fn lines_task(args: &mut Args) -> Task {
 /// Appends numbers as two bytes each, the low one first.
 fn push_u16(out: &mut Vec<u8>, numbers: impl IntoIterator<Item = usize>) {
     for number in numbers {
-        let narrow = u16::try_from(number).expect("carriers, bins and counts are below 65,536");
+        let narrow = u16::try_from(number).expect("entries of the tables are below 65,536");
         out.extend(narrow.to_le_bytes());
     }
-}
-
-/// One record: mode, phase, kinds, roles, signs, data list, continual list with its count, bins.
-fn record(mode: Mode, phase: u8, choice: u16) -> Vec<u8> {
-    let layout = FrameLayout::new(mode, kinds_of_choice(choice));
-    let at = usize::from(phase);
-    let continual = answers::continual(&layout);
-    let wide = |&k: &u32| k as usize;
-    let mut out = vec![mode.number(), phase];
-    out.extend(kind_bytes(choice));
-    out.extend(answers::roles(&layout, at));
-    out.extend(answers::signs(mode));
-    push_u16(&mut out, layout.data[at].iter().map(wide));
-    push_u16(&mut out, [continual.len()]);
-    push_u16(&mut out, continual.iter().map(wide));
-    push_u16(&mut out, (0..layout.k_total).map(|k| carrier_bin(mode, k)));
-    out
-}
-
-/// Every mode and phase twice: with all segments of one kind, by turns, and with random kinds.
-fn sample(seed: u64) -> Vec<u8> {
-    let mut rng = Rng::new(seed);
-    let mut out = Vec::new();
-    for mode in MODES {
-        for phase in 0..PHASES {
-            let alike = if (mode.number() + phase) % 2 == 1 {
-                0
-            } else {
-                KINDS - 1
-            };
-            out.extend(record(mode, phase, alike));
-            out.extend(record(mode, phase, rng.choice()));
-        }
-    }
-    out
 }
 
 /// Appends the rows of a carrier table, each after the count of its entries.
@@ -190,11 +140,8 @@ fn main() -> ExitCode {
     let (task, seed) = task();
     let mut rng = Rng::new(seed);
     let done = match task {
-        Task::Sample(path) => fs::write(path, sample(seed)),
+        Task::Operations(path) => fs::write(path, ops::stored(seed)),
         Task::Tables(path) => fs::write(path, tables()),
-        Task::Acquire(path) => fs::write(path, stored_acquire::stored(seed)),
-        Task::Floats(path) => fs::write(path, stored_floats::stored(seed)),
-        Task::Grid(path) => fs::write(path, stored_grid::stored(seed)),
         Task::Lines(count) => print_lines((0..count).map(|_| random_question(&mut rng))),
         Task::AllLines => print_lines(every_question()),
         Task::Answers => print_answers(),
@@ -224,11 +171,8 @@ mod tests {
             text.into_bytes()
         };
         for (name, written) in [
-            ("crates/replay_layout/stdin", sample(1)),
+            ("crates/replay_operations/stdin", ops::stored(1)),
             ("crates/replay_tables/stdin", tables()),
-            ("crates/replay_acquire/stdin", stored_acquire::stored(1)),
-            ("crates/replay_grid/stdin", stored_grid::stored(1)),
-            ("tests/c/floats.stored", stored_floats::stored(1)),
             ("crates/segments/stdout", answers("crates/segments/stdin")),
             ("examples/licensed.out", answers("examples/licensed.txt")),
         ] {
@@ -237,28 +181,9 @@ mod tests {
     }
 
     #[test]
-    fn sample_is_small_and_begins_with_a_plain_layout() {
-        let sample = sample(1);
-        assert!(sample.len() < 600_000);
-        assert_eq!(sample[..15], [1, 0, 0, 0, 0, 0, 0, 0, 0, 0, 0, 0, 0, 0, 0]);
-        // Carrier 648 is SP, 683 AC1, 697 TMCC, and the last one is the edge.
-        assert_eq!([648, 683, 697, 1404].map(|k| sample[15 + k]), [1, 4, 3, 6]);
-    }
-
-    #[test]
     fn tables_have_every_entry() {
         // 195 rows with their counts, 1326 entries, 39 first states, 672 randomizing entries.
         assert_eq!(tables().len(), 195 + 2 * (1326 + 39 + 672));
         assert_eq!(first_state("10000000000"), 1024);
-    }
-
-    #[test]
-    fn record_has_every_part() {
-        for mode in MODES {
-            let (k, nc) = (mode.total_carriers(), mode.data_carriers_per_segment());
-            let count = 13 * (mode.scale() * 3) + 1;
-            let len = 15 + 2 * k + 2 * 13 * nc + 2 + 2 * count + 2 * k;
-            assert_eq!(record(mode, 0, 0).len(), len);
-        }
     }
 }

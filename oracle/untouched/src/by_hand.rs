@@ -1,9 +1,10 @@
 //! Calls made by hand: as few floats that are not zero as a departure needs.
 
-use oracle::acquire_answers::scratch_needed;
-use oracle::acquire_calls::{Floats, GuessCall, PhaseCall};
-use oracle::acquire_cases::fewest_pairs;
+use oracle::harness::call::Floats;
+use oracle::inputs::arguments::fewest_pairs;
 use oracle::isdb::params::{GuardInterval, Mode, SEGMENTS};
+use oracle::ops::detect_mode::{GuessCall, scratch_needed};
+use oracle::ops::detect_sp_phase::PhaseCall;
 
 /// Zeros, but for these pairs at their places.
 fn zeros_but(pairs: usize, others: &[(usize, [f32; 2])]) -> Floats {

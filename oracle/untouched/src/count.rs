@@ -2,10 +2,10 @@
 
 use crate::held::{Departs, Held};
 use crate::input_kind::{InputKind, KINDS};
-use oracle::acquire_calls::Floats;
-use oracle::acquire_compare::simpler;
-use oracle::rng::Rng;
-use oracle::tally::on_all_processors;
+use oracle::harness::call::Floats;
+use oracle::harness::rng::Rng;
+use oracle::harness::simpler::simpler;
+use oracle::harness::tally::on_all_processors;
 use std::collections::BTreeMap;
 
 /// What was counted of one kind of input.
@@ -45,16 +45,16 @@ const JOB: usize = 64;
 
 impl<C: Held> Counted<C> {
     /// Counts `cases` random calls, the same as those of the comparison with the port.
-    pub fn random(seed: u64, stream: u64, cases: usize) -> Self {
+    pub fn random(seed: u64, cases: usize) -> Self {
         Self::of(cases, |index| {
-            C::random(&mut Rng::for_case(seed, stream, index))
+            C::random(&mut Rng::for_case(seed, C::STREAM, index))
         })
     }
 
     /// The same, with one pair of an infinity and a NaN put into each.
-    pub fn with_odd_pair(seed: u64, stream: u64, cases: usize) -> Self {
+    pub fn with_odd_pair(seed: u64, cases: usize) -> Self {
         Self::of(cases, |index| {
-            let mut rng = Rng::for_case(seed, stream, index);
+            let mut rng = Rng::for_case(seed, C::STREAM, index);
             let mut call = C::random(&mut rng);
             if let Some(Floats(floats)) = call.floats() {
                 put_odd_pair(&mut rng, floats);

@@ -3,13 +3,17 @@
 use crate::C32;
 use crate::acquire;
 use crate::chanest::ChannelEstimator;
-use oracle::acquire_answers as answers;
-use oracle::acquire_calls::{GuessCall, KindsCall, PhaseCall, ShiftCall, TmccCall};
-use oracle::acquire_cases::Cases;
+use oracle::acquire::Oracle;
 use oracle::codes::{guards_of, kinds_of, mode_of, modes_of};
-use oracle::floats::Value;
-use oracle::grid_calls::GridCall;
+use oracle::harness::call::Call;
+use oracle::harness::value::Value;
 use oracle::isdb::frame::{FrameLayout, SegmentKind};
+use oracle::ops::detect_kinds::KindsCall;
+use oracle::ops::detect_mode::GuessCall;
+use oracle::ops::detect_sp_phase::PhaseCall;
+use oracle::ops::estimate_grid::GridCall;
+use oracle::ops::integer_cfo::ShiftCall;
+use oracle::ops::tmcc_soft::TmccCall;
 use std::fmt::Debug;
 
 /// What departs.
@@ -80,7 +84,7 @@ impl Both {
 }
 
 /// A call that is made to both.
-pub trait Held: Cases {
+pub trait Held: Call {
     /// Makes the call, or gives the oracle's refusal.
     fn held(&self) -> Result<Both, u8>;
 
@@ -101,7 +105,7 @@ fn spectra_of(floats: &[f32], len: usize) -> Vec<Vec<C32>> {
 
 impl Held for ShiftCall {
     fn held(&self) -> Result<Both, u8> {
-        let oracle = answers::integer_cfo(self.mode, &self.spectra.0, self.bound, self.ratios)?;
+        let oracle = self.answer::<Oracle>()?;
         let mode = mode_of(self.mode)?;
         let spectra = spectra_of(&self.spectra.0, mode.fft_size());
         let (shift, score) = acquire::integer_cfo(mode, &spectra, self.bound);
@@ -120,7 +124,7 @@ impl Held for ShiftCall {
 
 impl Held for KindsCall {
     fn held(&self) -> Result<Both, u8> {
-        let oracle = answers::detect_kinds(self.mode, &self.spectra.0, self.ratios)?;
+        let oracle = self.answer::<Oracle>()?;
         let mode = mode_of(self.mode)?;
         let spectra = spectra_of(&self.spectra.0, mode.total_carriers());
         let (kinds, scores) = acquire::detect_kinds(mode, &spectra);
@@ -140,7 +144,7 @@ impl Held for KindsCall {
 
 impl Held for PhaseCall {
     fn held(&self) -> Result<Both, u8> {
-        let oracle = answers::detect_sp_phase(self.mode, &self.kinds, &self.spectra.0)?;
+        let oracle = self.answer::<Oracle>()?;
         let mode = mode_of(self.mode)?;
         let layout = FrameLayout::new(mode, kinds_of(&self.kinds)?);
         let spectra = spectra_of(&self.spectra.0, mode.total_carriers());
@@ -164,7 +168,7 @@ impl Held for PhaseCall {
 
 impl Held for TmccCall {
     fn held(&self) -> Result<Both, u8> {
-        let oracle = answers::tmcc_soft(self.mode, &self.kinds, &self.spectra.0, self.filter)?;
+        let oracle = self.answer::<Oracle>()?;
         let mode = mode_of(self.mode)?;
         let layout = FrameLayout::new(mode, kinds_of(&self.kinds)?);
         let filter = match self.filter {
@@ -186,8 +190,7 @@ impl Held for TmccCall {
 
 impl Held for GuessCall {
     fn held(&self) -> Result<Both, u8> {
-        let oracle =
-            answers::detect_mode(&self.samples.0, &self.modes, &self.guards, self.scratch)?;
+        let oracle = self.answer::<Oracle>()?;
         let (modes, guards) = (modes_of(&self.modes)?, guards_of(&self.guards)?);
         let found = acquire::detect_mode(&pairs(&self.samples.0), &modes, &guards);
         let mut both = Both::default();

@@ -1,8 +1,12 @@
 //! Counts where the untouched Rust departs from the oracle, and prints tables and smallest inputs.
 
-use oracle::acquire_calls::{GuessCall, KindsCall, PhaseCall, ShiftCall, TmccCall};
-use oracle::args::Args;
-use oracle::grid_calls::GridCall;
+use oracle::harness::args::Args;
+use oracle::ops::detect_kinds::KindsCall;
+use oracle::ops::detect_mode::GuessCall;
+use oracle::ops::detect_sp_phase::PhaseCall;
+use oracle::ops::estimate_grid::GridCall;
+use oracle::ops::integer_cfo::ShiftCall;
+use oracle::ops::tmcc_soft::TmccCall;
 use std::time::Instant;
 use untouched::by_hand;
 use untouched::count::{Counted, Row};
@@ -45,14 +49,8 @@ fn options() -> Options {
     options
 }
 
-/// Streams of random numbers: those of the comparison's random calls, and those of the norms.
+/// Streams of random numbers: those of the norms. Random calls have those of the comparison.
 mod stream {
-    pub const SHIFT: u64 = 500;
-    pub const KINDS: u64 = 501;
-    pub const PHASE: u64 = 502;
-    pub const TMCC: u64 = 503;
-    pub const GUESS: u64 = 505;
-    pub const GRID: u64 = 800;
     pub const WHOLE: u64 = 700;
     pub const FINITE: u64 = 710;
     pub const NEAREST: u64 = 720;
@@ -72,23 +70,23 @@ fn smallest<C: Held>(counted: &Counted<C>) -> String {
 }
 
 /// Prints the rows of an operation and gives the text of its smallest departing calls.
-fn random_calls<C: Held>(options: &Options, stream: u64) -> String {
-    let counted = Counted::<C>::random(options.seed, stream, options.cases);
+fn random_calls<C: Held>(options: &Options) -> String {
+    let counted = Counted::<C>::random(options.seed, options.cases);
     for (kind, row) in &counted.rows {
         let (cases, answer, float) = (row.cases, row.answer, row.float);
-        println!("| {} | {kind} | {cases} | {answer} | {float} |", C::NAME);
+        println!("| {} | {kind} | {cases} | {answer} | {float} |", C::TITLE);
     }
-    println!("| {} | refused | {} | – | – |", C::NAME, counted.refused);
+    println!("| {} | refused | {} | – | – |", C::TITLE, counted.refused);
     smallest(&counted)
 }
 
 /// The same for calls with a pair of an infinity and a NaN. There are fewer of them.
-fn odd_calls<C: Held>(options: &Options, stream: u64) -> String {
-    let counted = Counted::<C>::with_odd_pair(options.seed, stream, options.cases / 10);
+fn odd_calls<C: Held>(options: &Options) -> String {
+    let counted = Counted::<C>::with_odd_pair(options.seed, options.cases / 10);
     let sum = |of: fn(&Row) -> u64| counted.rows.values().map(of).sum::<u64>();
     println!(
         "| {} | {} | {} | {} |",
-        C::NAME,
+        C::TITLE,
         sum(|row| row.cases),
         sum(|row| row.answer),
         sum(|row| row.float)
@@ -101,12 +99,12 @@ fn all_random_calls(options: &Options) {
     println!("| operation | kind of input | cases | answer departs | only floats depart |");
     println!("|---|---|---:|---:|---:|");
     let smallest = [
-        random_calls::<GuessCall>(options, stream::GUESS),
-        random_calls::<ShiftCall>(options, stream::SHIFT),
-        random_calls::<KindsCall>(options, stream::KINDS),
-        random_calls::<PhaseCall>(options, stream::PHASE),
-        random_calls::<TmccCall>(options, stream::TMCC),
-        random_calls::<GridCall>(options, stream::GRID),
+        random_calls::<GuessCall>(options),
+        random_calls::<ShiftCall>(options),
+        random_calls::<KindsCall>(options),
+        random_calls::<PhaseCall>(options),
+        random_calls::<TmccCall>(options),
+        random_calls::<GridCall>(options),
     ];
     println!("\nSmallest departing calls found, by operation, kind of input and what departs:");
     println!("{}", smallest.concat());
@@ -118,12 +116,12 @@ fn all_odd_calls(options: &Options) {
     println!("| operation | cases | answer departs | only floats depart |");
     println!("|---|---:|---:|---:|");
     let smallest = [
-        odd_calls::<GuessCall>(options, stream::GUESS),
-        odd_calls::<ShiftCall>(options, stream::SHIFT),
-        odd_calls::<KindsCall>(options, stream::KINDS),
-        odd_calls::<PhaseCall>(options, stream::PHASE),
-        odd_calls::<TmccCall>(options, stream::TMCC),
-        odd_calls::<GridCall>(options, stream::GRID),
+        odd_calls::<GuessCall>(options),
+        odd_calls::<ShiftCall>(options),
+        odd_calls::<KindsCall>(options),
+        odd_calls::<PhaseCall>(options),
+        odd_calls::<TmccCall>(options),
+        odd_calls::<GridCall>(options),
     ];
     println!("\nSmallest departing calls found:\n{}", smallest.concat());
 }

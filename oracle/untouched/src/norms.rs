@@ -1,10 +1,10 @@
 //! The norms alone: the oracle's exact roots against `hypot`.
 
 use oracle::complex::{C32, C64};
-use oracle::float_inputs::{NORM_32, NORM_64};
-use oracle::floats::Value;
-use oracle::rng::Rng;
-use oracle::tally::on_all_processors;
+use oracle::harness::rng::Rng;
+use oracle::harness::tally::on_all_processors;
+use oracle::harness::value::Value;
+use oracle::inputs::floats::{NORM_32, NORM_64};
 
 /// What was counted of one norm on inputs of one class. The pair at which it departs first has the
 /// lowest larger part, then the lowest smaller one.

@@ -1,0 +1,14 @@
+//! What calls are made of: arguments around their boundaries, layouts, captures, samples, floats,
+//! changes of a capture, questions; whole captures that are stored; and what is timed.
+
+pub mod arguments;
+pub mod captures;
+pub mod changes;
+pub mod floats;
+pub mod layouts;
+pub mod questions;
+pub mod samples;
+pub mod timed;
+pub mod timed_floats;
+pub mod timed_layouts;
+pub mod whole;
