@@ -40,7 +40,7 @@ fn defined() -> BTreeSet<String> {
 }
 
 /// What a function has, where, and what is found there; the last may be one of several.
-const PLACES: [(&str, &str, &str); 9] = [
+const PLACES: [(&str, &str, &str); 10] = [
     ("a wrapper", "host/src", "ffi::NAME("),
     ("a case", "host/tests/stored.rs", "::NAME( or ::NAME_lent("),
     ("a call", "tests/c/replay.c", "sillurwy_NAME("),
@@ -48,6 +48,7 @@ const PLACES: [(&str, &str, &str); 9] = [
     ("a target", "tests/c/fuzz.c", "{\"NAME\", NAME, "),
     ("its comparison", "oracle/src/ops/NAME.rs", "ffi::NAME"),
     ("a row", "oracle/src/ops/mod.rs", "NAME::OPERATION"),
+    ("a wrong port", "oracle/tests/mistakes/NAME.rs", "found("),
     (
         "a line",
         "crates/replay_operations/src/main.rt",
