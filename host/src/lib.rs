@@ -1,7 +1,8 @@
 //! Carrier layout and acquisition for ISDB-T captures.
 //!
 //! The operations are proved, in Rattle, and linked as a static library; this crate calls them
-//! through C and adds types. A module has the name of the crate that it calls.
+//! through C and adds types. A module has the name of the crate that it calls; [`guess`] calls
+//! `samples_needed` too, and [`ieee`] calls `root`.
 //!
 //! | module | operations |
 //! |---|---|

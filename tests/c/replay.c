@@ -1,11 +1,13 @@
 /* Calls every function of sillurwy.h from C and compares the answers with the stored ones, which
- * oracle/store wrote (oracle/README.md, "The stored answers", has the form of the files).
+ * oracle/store wrote (oracle/README.md, "The stored answers", has the form of the file).
  *
- *   replay LAYOUT ACQUIRE GRID FLOATS [NAME]
+ *   replay FILE [NAME]
  *
  * It prints for each function how many calls were compared and how many differ. The exit status is
- * 1 if any differs, if a file cannot be read to its end, or if a function was not called. With a
- * function's name, the first of its stored answers is damaged: this must be found. */
+ * 1 if any differs, if the file cannot be read to its end, or if a function was not called. With a
+ * function's name, the first of its stored answers is damaged: this must be found.
+ *
+ * A new function has a name below and a line in `called`. */
 #include "sillurwy.h"
 
 #include <stdbool.h>
@@ -13,9 +15,9 @@
 #include <stdlib.h>
 #include <string.h>
 
-/* ---- What was compared ---- */
-
+/* The functions by their numbers in the file, which begin at 1. */
 enum function {
+    NO_FUNCTION,
     CARRIER_BIN,
     ROLE_MAP,
     SIGN_MAP,
@@ -36,30 +38,32 @@ enum function {
 };
 
 static const char *const names[FUNCTIONS] = {
-    "carrier_bin",    "role_map",    "sign_map",    "data_list",    "continual_list",
-    "samples_needed", "detect_mode", "integer_cfo", "detect_kinds", "tmcc_soft",
-    "detect_sp_phase", "estimate_grid", "root",     "narrow",       "norm32",
-    "norm64",
+    "none",           "carrier_bin",     "role_map",      "sign_map",    "data_list",
+    "continual_list", "samples_needed",  "detect_mode",   "integer_cfo", "detect_kinds",
+    "tmcc_soft",      "detect_sp_phase", "estimate_grid", "root",        "narrow",
+    "norm32",         "norm64",
 };
 
 static unsigned long calls[FUNCTIONS];
 static unsigned long differing[FUNCTIONS];
 
 /* The function whose next answer is damaged, if any. */
-static size_t damaged = FUNCTIONS;
+static size_t damaged = NO_FUNCTION;
 
-static void count(enum function function, bool good)
+static void count(size_t function, bool good)
 {
     calls[function]++;
-    if (!good) {
-        if (differing[function] == 0) {
-            printf("%s: call %lu differs\n", names[function], calls[function]);
-        }
-        differing[function]++;
+    if (!good && differing[function]++ == 0) {
+        printf("%s: call %lu differs\n", names[function], calls[function]);
     }
 }
 
-/* ---- Memory and files ---- */
+/* ---- The file ---- */
+
+static const char *file_name;
+static uint8_t *bytes;
+static size_t size;
+static size_t at;
 
 static void fail(const char *what, const char *name)
 {
@@ -67,384 +71,296 @@ static void fail(const char *what, const char *name)
     exit(1);
 }
 
-/* Room for `entries` of `size` bytes, and for one where there are none. */
-static void *room(size_t entries, size_t size)
+/* Room for `entries` of `width` bytes, and for one behind them. */
+static void *room(size_t entries, size_t width)
 {
-    void *memory = calloc(entries + 1, size);
+    void *memory = calloc(entries + 1, width);
     if (memory == NULL) {
         fail("no memory", "calloc");
     }
     return memory;
 }
 
-/* A file that is read from its beginning to its end. */
-struct reader {
-    const char *name;
-    uint8_t *bytes;
-    size_t size;
-    size_t at;
-};
-
-static struct reader opened(const char *name)
+static void read_file(const char *name)
 {
-    struct reader in = {name, NULL, 0, 0};
-    long size = 0;
+    long end = 0;
     FILE *file = fopen(name, "rb");
-    if (file == NULL || fseek(file, 0, SEEK_END) != 0 || (size = ftell(file)) < 0 ||
+    file_name = name;
+    if (file == NULL || fseek(file, 0, SEEK_END) != 0 || (end = ftell(file)) < 0 ||
         fseek(file, 0, SEEK_SET) != 0) {
         fail("cannot read", name);
     }
-    in.size = (size_t)size;
-    in.bytes = room(in.size, 1);
-    if (fread(in.bytes, 1, in.size, file) != in.size) {
+    size = (size_t)end;
+    bytes = room(size, 1);
+    if (fread(bytes, 1, size, file) != size) {
         fail("cannot read", name);
     }
     fclose(file);
-    return in;
 }
 
-/* The next bytes. */
-static const uint8_t *take(struct reader *in, size_t bytes)
+static const uint8_t *take(size_t n)
 {
-    const uint8_t *from = in->bytes + in->at;
-    if (in->size - in->at < bytes) {
-        fail("ends early", in->name);
+    const uint8_t *from = bytes + at;
+    if (size - at < n) {
+        fail("ends early", file_name);
     }
-    in->at += bytes;
+    at += n;
     return from;
 }
 
-/* A stored answer comes next. */
-static void answer_of(struct reader *in, enum function function)
+/* A number of n bytes, the low one first. */
+static uint64_t number(size_t n)
 {
-    if (function == damaged && in->at < in->size) {
-        in->bytes[in->at] ^= 1;
-        damaged = FUNCTIONS;
-    }
-}
-
-/* A number of some bytes, the low one first. */
-static uint64_t number(struct reader *in, size_t bytes)
-{
-    const uint8_t *from = take(in, bytes);
+    const uint8_t *from = take(n);
     uint64_t value = 0;
-    for (size_t i = bytes; i > 0; i--) {
+    for (size_t i = n; i > 0; i--) {
         value = value << 8 | from[i - 1];
     }
     return value;
 }
 
-static uint8_t byte(struct reader *in)
+static size_t length(void)
 {
-    return *take(in, 1);
+    return (size_t)number(2);
 }
 
-static float f32_of(uint32_t bits)
+static float float_of(uint32_t bits)
 {
     float value;
     memcpy(&value, &bits, sizeof value);
     return value;
 }
 
-static double f64_of(uint64_t bits)
+static double double_of(uint64_t bits)
 {
     double value;
     memcpy(&value, &bits, sizeof value);
     return value;
 }
 
-/* The bits of a float, the same for all NaNs. */
-static uint32_t f32_bits(float value)
-{
-    uint32_t bits;
-    memcpy(&bits, &value, sizeof bits);
-    return (bits & 0x7fffffffu) > 0x7f800000u ? 0x7fc00000u : bits;
-}
+/* ---- A call ---- */
 
-static uint64_t f64_bits(double value)
-{
-    uint64_t bits;
-    memcpy(&bits, &value, sizeof bits);
-    return (bits & 0x7fffffffffffffffu) > 0x7ff0000000000000u ? 0x7ff8000000000000u : bits;
-}
+enum type { U8, U32, SIZE, I64, F32, F64, TYPES };
 
-/* The next answer is this float. Each of these reads on, whatever it finds. */
-static bool is_f32(struct reader *in, float value)
-{
-    return number(in, 4) == f32_bits(value);
-}
+/* Bytes of an entry, in memory and in the file. */
+static const size_t held_bytes[TYPES] = {1, 4, sizeof(size_t), 8, 4, 8};
+static const size_t stored_bytes[TYPES] = {1, 4, 4, 8, 4, 8};
 
-static bool is_f64(struct reader *in, double value)
-{
-    return number(in, 8) == f64_bits(value);
-}
-
-static bool are_f32(struct reader *in, const float *values, size_t len)
-{
-    bool good = true;
-    for (size_t i = 0; i < len; i++) {
-        good &= is_f32(in, values[i]);
-    }
-    return good;
-}
-
-/* The next answers are these numbers, of two bytes each. */
-static bool are_u32(struct reader *in, const uint32_t *values, size_t len)
-{
-    bool good = true;
-    for (size_t i = 0; i < len; i++) {
-        good &= number(in, 2) == values[i];
-    }
-    return good;
-}
-
-/* The next bytes are zeros: what is left out of an answer. */
-static bool are_zeros(struct reader *in, size_t bytes)
-{
-    const uint8_t *from = take(in, bytes);
-    bool good = true;
-    for (size_t i = 0; i < bytes; i++) {
-        good &= from[i] == 0;
-    }
-    return good;
-}
-
-/* Every byte is 0x5a, as `fill` left it. */
-static void fill(void *memory, size_t bytes)
-{
-    memset(memory, 0x5a, bytes);
-}
-
-static bool untouched(const void *memory, size_t bytes)
-{
-    const uint8_t *at = memory;
-    bool good = true;
-    for (size_t i = 0; i < bytes; i++) {
-        good &= at[i] == 0x5a;
-    }
-    return good;
-}
-
-/* ---- The sample of layouts ---- */
-
-static void role_map(struct reader *in, uint8_t mode, uint8_t phase, const uint8_t *kinds)
-{
-    size_t len = SILLURWY_TOTAL_CARRIERS(mode);
-    uint8_t *out = room(len, 1);
-    fill(out, len + 1);
-    uint8_t code = sillurwy_role_map(mode, phase, kinds, 13, out, len - 1);
-    count(ROLE_MAP, code == SILLURWY_BAD_LENGTH && untouched(out, len + 1));
-    code = sillurwy_role_map(mode, phase, kinds, 13, out, len);
-    answer_of(in, ROLE_MAP);
-    bool good = memcmp(take(in, len), out, len) == 0;
-    count(ROLE_MAP, code == 0 && good && untouched(out + len, 1));
-    free(out);
-}
-
-static void sign_map(struct reader *in, uint8_t mode)
-{
-    size_t len = SILLURWY_TOTAL_CARRIERS(mode);
-    uint8_t *out = room(len, 1);
-    fill(out, len + 1);
-    uint8_t code = sillurwy_sign_map(mode, out, len + 1);
-    count(SIGN_MAP, code == SILLURWY_BAD_LENGTH && untouched(out, len + 1));
-    code = sillurwy_sign_map(mode, out, len);
-    answer_of(in, SIGN_MAP);
-    bool good = memcmp(take(in, len), out, len) == 0;
-    count(SIGN_MAP, code == 0 && good && untouched(out + len, 1));
-    free(out);
-}
-
-static void data_list(struct reader *in, uint8_t mode, uint8_t phase, const uint8_t *kinds)
-{
-    size_t len = SILLURWY_DATA_LIST_LENGTH(mode);
-    uint32_t *out = room(len, 4);
-    fill(out, 4 * (len + 1));
-    uint8_t code = sillurwy_data_list(mode, 4, kinds, 13, out, len);
-    count(DATA_LIST, code == SILLURWY_BAD_PHASE && untouched(out, 4 * (len + 1)));
-    code = sillurwy_data_list(mode, phase, kinds, 13, out, len);
-    answer_of(in, DATA_LIST);
-    bool good = are_u32(in, out, len);
-    count(DATA_LIST, code == 0 && good && untouched(out + len, 4));
-    free(out);
-}
-
-static void continual_list(struct reader *in, uint8_t mode, const uint8_t *kinds)
-{
-    size_t most = SILLURWY_CONTINUAL_LIST_MOST(mode);
-    size_t len = (size_t)number(in, 2);
-    size_t counted = 99;
-    uint32_t *out = room(most, 4);
-    fill(out, 4 * (most + 1));
-    uint8_t code = sillurwy_continual_list(mode, kinds, 12, out, most, &counted);
-    bool good = code == SILLURWY_BAD_KINDS && counted == 99;
-    count(CONTINUAL_LIST, good && untouched(out, 4 * (most + 1)));
-    code = sillurwy_continual_list(mode, kinds, 13, out, most, &counted);
-    /* The header's macro is the count where all segments are differential. */
-    bool all = memchr(kinds, SILLURWY_COHERENT, 13) == NULL;
-    good = len <= most && (len == most) == all && counted == len;
-    if (len > most) {
-        fail("has a longer continual list than the header says", in->name);
-    }
-    answer_of(in, CONTINUAL_LIST);
-    good &= are_u32(in, out, len);
-    count(CONTINUAL_LIST, code == 0 && good && untouched(out + len, 4 * (most + 1 - len)));
-    free(out);
-}
-
-static void carrier_bins(struct reader *in, uint8_t mode)
-{
-    size_t len = SILLURWY_TOTAL_CARRIERS(mode);
-    size_t bin = SIZE_MAX;
-    uint8_t code = sillurwy_carrier_bin(mode, len, &bin);
-    count(CARRIER_BIN, code == SILLURWY_BAD_CARRIER && bin == SIZE_MAX);
-    for (size_t k = 0; k < len; k++) {
-        code = sillurwy_carrier_bin(mode, k, &bin);
-        answer_of(in, CARRIER_BIN);
-        bool good = number(in, 2) == bin;
-        count(CARRIER_BIN, code == 0 && good);
-    }
-}
-
-static void replay_layout(struct reader *in)
-{
-    while (in->at < in->size) {
-        uint8_t mode = byte(in);
-        uint8_t phase = byte(in);
-        const uint8_t *kinds = take(in, 13);
-        role_map(in, mode, phase, kinds);
-        sign_map(in, mode);
-        data_list(in, mode, phase, kinds);
-        continual_list(in, mode, kinds);
-        carrier_bins(in, mode);
-    }
-}
-
-/* ---- Acquisition ---- */
-
-/* Spectra or samples, each float in a byte that is 128 more. */
-static float *floats(struct reader *in, size_t len)
-{
-    const uint8_t *bytes = take(in, len);
-    float *values = room(len, sizeof *values);
-    for (size_t i = 0; i < len; i++) {
-        values[i] = (float)(bytes[i] - 128);
-    }
-    return values;
-}
-
-/* A call as it is stored. */
-struct call {
-    uint8_t mode;
-    uint8_t filter;
-    size_t first_len;
-    size_t second_len;
+/* Something that is lent to be written: entries that are 77, and one more behind them. */
+struct thing {
+    enum type type;
     size_t len;
-    size_t number;
-    size_t lent;
-    uint8_t code;
-    const uint8_t *first;
-    const uint8_t *second;
-    float *floats;
+    void *entries;
 };
 
-static void integer_cfo(struct reader *in, const struct call *call)
+enum { NUMBERS = 4, LISTS = 2, WIDE = 2, THINGS = 8 };
+
+struct call {
+    size_t numbers[NUMBERS];
+    size_t lent[LISTS];
+    size_t lens[LISTS];
+    const uint8_t *lists[LISTS];
+    size_t floats_len;
+    float *floats;
+    double wide[WIDE];
+    struct thing things[THINGS];
+};
+
+static void set_77(const struct thing *thing, size_t i)
 {
-    float *ratios = room(call->lent, sizeof *ratios);
-    int64_t shift;
-    float score;
-    fill(ratios, 4 * call->lent);
-    fill(&shift, sizeof shift);
-    fill(&score, sizeof score);
-    uint8_t code = sillurwy_integer_cfo(call->mode, call->floats, call->len, call->number, ratios,
-                                        call->lent, &shift, &score);
-    bool good = code == call->code;
-    if (call->code != 0) {
-        good &= untouched(ratios, 4 * call->lent);
-        good &= untouched(&shift, sizeof shift) && untouched(&score, sizeof score);
-    } else {
-        answer_of(in, INTEGER_CFO);
-        good &= (int64_t)number(in, 2) - 32768 == shift;
-        good &= is_f32(in, score);
-        good &= are_f32(in, ratios, call->lent);
+    switch (thing->type) {
+    case U8: ((uint8_t *)thing->entries)[i] = 77; break;
+    case U32: ((uint32_t *)thing->entries)[i] = 77; break;
+    case SIZE: ((size_t *)thing->entries)[i] = 77; break;
+    case I64: ((int64_t *)thing->entries)[i] = 77; break;
+    case F32: ((float *)thing->entries)[i] = 77; break;
+    default: ((double *)thing->entries)[i] = 77; break;
     }
-    count(INTEGER_CFO, good);
-    free(ratios);
 }
 
-static void detect_kinds(struct reader *in, const struct call *call)
+/* The bits of an entry, the same for all NaNs. */
+static uint64_t bits_of(const struct thing *thing, size_t i)
 {
-    float *ratios = room(call->lent, sizeof *ratios);
-    uint8_t kinds[SILLURWY_SEGMENTS];
-    float scores[SILLURWY_SEGMENTS];
-    fill(ratios, 4 * call->lent);
-    fill(kinds, sizeof kinds);
-    fill(scores, sizeof scores);
-    uint8_t code = sillurwy_detect_kinds(call->mode, call->floats, call->len, ratios, call->lent,
-                                         kinds, scores);
-    bool good = code == call->code;
-    if (call->code != 0) {
-        good &= untouched(ratios, 4 * call->lent);
-        good &= untouched(kinds, sizeof kinds) && untouched(scores, sizeof scores);
-    } else {
-        answer_of(in, DETECT_KINDS);
-        good &= memcmp(take(in, sizeof kinds), kinds, sizeof kinds) == 0;
-        good &= are_f32(in, scores, SILLURWY_SEGMENTS);
-        good &= are_f32(in, ratios, call->lent);
+    uint32_t word;
+    uint64_t wide;
+    switch (thing->type) {
+    case U8: return ((const uint8_t *)thing->entries)[i];
+    case SIZE: return ((const size_t *)thing->entries)[i];
+    case U32:
+    case F32:
+        memcpy(&word, (const uint32_t *)thing->entries + i, sizeof word);
+        return thing->type == F32 && (word & 0x7fffffffu) > 0x7f800000u ? 0x7fc00000u : word;
+    default:
+        memcpy(&wide, (const uint64_t *)thing->entries + i, sizeof wide);
+        return thing->type == F64 && (wide & 0x7fffffffffffffffu) > 0x7ff0000000000000u
+                   ? 0x7ff8000000000000u
+                   : wide;
     }
-    count(DETECT_KINDS, good);
-    free(ratios);
 }
 
-static void tmcc_soft(struct reader *in, const struct call *call)
+/* What is lent at a place, in the order of the function. */
+static void *lend(struct call *c, size_t place, enum type type, size_t len)
 {
-    float value;
-    fill(&value, sizeof value);
-    uint8_t code = sillurwy_tmcc_soft(call->mode, call->first, call->first_len, call->floats,
-                                      call->len, call->filter, &value);
-    bool good = code == call->code;
-    if (call->code != 0) {
-        good &= untouched(&value, sizeof value);
-    } else {
-        answer_of(in, TMCC_SOFT);
-        good &= is_f32(in, value);
+    struct thing *thing = &c->things[place];
+    thing->type = type;
+    thing->len = len;
+    thing->entries = room(len, held_bytes[type]);
+    for (size_t i = 0; i < len + 1; i++) {
+        set_77(thing, i);
     }
-    count(TMCC_SOFT, good);
+    return thing->entries;
 }
 
-static void detect_sp_phase(struct reader *in, const struct call *call)
+static uint8_t *u8s(struct call *c, size_t place, size_t n) { return lend(c, place, U8, n); }
+static uint32_t *u32s(struct call *c, size_t place, size_t n) { return lend(c, place, U32, n); }
+static size_t *sizes(struct call *c, size_t place, size_t n) { return lend(c, place, SIZE, n); }
+static int64_t *i64s(struct call *c, size_t place, size_t n) { return lend(c, place, I64, n); }
+static float *f32s(struct call *c, size_t place, size_t n) { return lend(c, place, F32, n); }
+static double *f64s(struct call *c, size_t place, size_t n) { return lend(c, place, F64, n); }
+
+/* An argument of one byte. */
+static uint8_t n8(const struct call *c, size_t i)
 {
-    uint8_t found = 0x5a;
-    uint8_t phase = 0x5a;
-    float share;
-    uint32_t counts[SILLURWY_PHASES];
-    uint32_t lead;
-    fill(&share, sizeof share);
-    fill(counts, sizeof counts);
-    fill(&lead, sizeof lead);
-    uint8_t code =
-        sillurwy_detect_sp_phase(call->mode, call->first, call->first_len, call->floats, call->len,
-                                 &found, &phase, &share, counts, &lead);
-    bool good = code == call->code;
-    if (call->code != 0) {
-        good &= found == 0x5a && phase == 0x5a && untouched(&share, sizeof share);
-        good &= untouched(counts, sizeof counts) && untouched(&lead, sizeof lead);
-    } else {
-        answer_of(in, DETECT_SP_PHASE);
-        good &= number(in, 4) == found;
-        if (found == 1) {
-            good &= number(in, 4) == phase;
-            good &= is_f32(in, share);
-        } else {
-            good &= are_zeros(in, 4 + 4);
-            good &= phase == 0x5a && untouched(&share, sizeof share);
+    if (c->numbers[i] > UINT8_MAX) {
+        fail("has a number above 255 where a byte is due", file_name);
+    }
+    return (uint8_t)c->numbers[i];
+}
+
+/* Makes the call of a record. Each thing that is lent says its place: a compiler may make the
+ * arguments in any order. What a function of floats returns takes the place of something lent. */
+static uint8_t called(size_t function, struct call *c)
+{
+    const size_t *n = c->numbers;
+    const uint8_t *list = c->lists[0], *more = c->lists[1];
+    size_t len = c->lens[0], more_len = c->lens[1], lent = c->lent[0];
+    const float *in = c->floats;
+    size_t in_len = c->floats_len;
+    switch (function) {
+    case CARRIER_BIN:
+        return sillurwy_carrier_bin(n8(c, 0), n[1], sizes(c, 0, 1));
+    case ROLE_MAP:
+        return sillurwy_role_map(n8(c, 0), n8(c, 1), list, len, u8s(c, 0, lent), lent);
+    case SIGN_MAP:
+        return sillurwy_sign_map(n8(c, 0), u8s(c, 0, lent), lent);
+    case DATA_LIST:
+        return sillurwy_data_list(n8(c, 0), n8(c, 1), list, len, u32s(c, 0, lent), lent);
+    case CONTINUAL_LIST:
+        return sillurwy_continual_list(n8(c, 0), list, len, u32s(c, 0, lent), lent,
+                                       sizes(c, 1, 1));
+    case SAMPLES_NEEDED:
+        return sillurwy_samples_needed(list, len, more, more_len, n[0], sizes(c, 0, 1));
+    case DETECT_MODE:
+        return sillurwy_detect_mode(in, in_len, list, len, more, more_len, f64s(c, 0, lent), lent,
+                                    u8s(c, 1, 1), u8s(c, 2, 1), u8s(c, 3, 1), sizes(c, 4, 1),
+                                    f64s(c, 5, 1), f64s(c, 6, 1), f64s(c, 7, 1));
+    case INTEGER_CFO:
+        return sillurwy_integer_cfo(n8(c, 0), in, in_len, n[1], f32s(c, 0, lent), lent,
+                                    i64s(c, 1, 1), f32s(c, 2, 1));
+    case DETECT_KINDS:
+        return sillurwy_detect_kinds(n8(c, 0), in, in_len, f32s(c, 0, lent), lent,
+                                     u8s(c, 1, SILLURWY_SEGMENTS), f32s(c, 2, SILLURWY_SEGMENTS));
+    case TMCC_SOFT:
+        return sillurwy_tmcc_soft(n8(c, 0), list, len, in, in_len, n8(c, 1), f32s(c, 0, 1));
+    case DETECT_SP_PHASE:
+        return sillurwy_detect_sp_phase(n8(c, 0), list, len, in, in_len, u8s(c, 0, 1),
+                                        u8s(c, 1, 1), f32s(c, 2, 1), u32s(c, 3, SILLURWY_PHASES),
+                                        u32s(c, 4, 1));
+    case ESTIMATE_GRID:
+        return sillurwy_estimate_grid(n8(c, 0), n8(c, 1), list, len, in, in_len, n[2], n[3],
+                                      f32s(c, 0, lent), lent);
+    case ROOT: *f64s(c, 0, 1) = sillurwy_root(c->wide[0]); return 0;
+    case NARROW: *f32s(c, 0, 1) = sillurwy_narrow(c->wide[0]); return 0;
+    case NORM32: *f32s(c, 0, 1) = sillurwy_norm32(in[0], in[1]); return 0;
+    case NORM64: *f64s(c, 0, 1) = sillurwy_norm64(c->wide[0], c->wide[1]); return 0;
+    default: fail("has a function that is not known", file_name);
+    }
+    return 0;
+}
+
+/* ---- Records ---- */
+
+static void read_numbers(size_t *numbers, size_t n)
+{
+    for (size_t i = 0; i < n; i++) {
+        numbers[i] = length();
+    }
+}
+
+/* A float in a byte is 128 more; in four bytes it has its bits. There is room for two at the least,
+ * which a norm takes. */
+static float *read_floats(size_t len, size_t width)
+{
+    float *floats = room(len + 1, sizeof *floats);
+    for (size_t i = 0; i < len; i++) {
+        floats[i] = width == 1 ? (float)((int)number(1) - 128) : float_of((uint32_t)number(4));
+    }
+    return floats;
+}
+
+static struct call read_call(void)
+{
+    struct call c = {0};
+    read_numbers(c.numbers, NUMBERS);
+    read_numbers(c.lent, LISTS);
+    read_numbers(c.lens, LISTS);
+    c.floats_len = length();
+    size_t width = (size_t)number(1);
+    size_t wide = (size_t)number(1);
+    if ((width != 1 && width != 4) || wide > WIDE) {
+        fail("makes no sense", file_name);
+    }
+    for (size_t i = 0; i < LISTS; i++) {
+        c.lists[i] = take(c.lens[i]);
+    }
+    c.floats = read_floats(c.floats_len, width);
+    for (size_t i = 0; i < wide; i++) {
+        c.wide[i] = double_of(number(8));
+    }
+    return c;
+}
+
+/* Reads the stored answer of something lent: the first entries are written as it says, or all alike,
+ * and every other one is 77 as before, also the one behind. */
+static bool as_stored(size_t function, const struct thing *thing)
+{
+    size_t written = length();
+    uint64_t alike = number(1);
+    if (written > thing->len || alike > 1) {
+        fail("makes no sense", file_name);
+    }
+    if (function == damaged && written > 0 && at < size) {
+        bytes[at] ^= 1;
+        damaged = NO_FUNCTION;
+    }
+    struct thing held = {thing->type, 1, room(1, held_bytes[thing->type])};
+    set_77(&held, 0);
+    bool good = true;
+    uint64_t owed = 0;
+    for (size_t i = 0; i < thing->len + 1; i++) {
+        if (i >= written) {
+            owed = bits_of(&held, 0);
+        } else if (i == 0 || alike == 0) {
+            owed = number(stored_bytes[thing->type]);
         }
-        for (size_t i = 0; i < SILLURWY_PHASES; i++) {
-            good &= number(in, 4) == counts[i];
-        }
-        good &= number(in, 4) == lead;
+        good &= bits_of(thing, i) == owed;
     }
-    count(DETECT_SP_PHASE, good);
+    free(held.entries);
+    return good;
+}
+
+static void replay_record(void)
+{
+    size_t function = (size_t)number(1);
+    uint64_t code = number(1);
+    struct call c = read_call();
+    bool good = called(function, &c) == code;
+    for (size_t i = 0; i < THINGS && c.things[i].entries != NULL; i++) {
+        good &= as_stored(function, &c.things[i]);
+        free(c.things[i].entries);
+    }
+    count(function, good);
+    free(c.floats);
 }
 
 /* Calls with no coherent segment, whose answer is that there are no scattered pilots. A refusal is no
@@ -453,227 +369,51 @@ static void detect_no_sp_phase(void)
 {
     static const uint8_t kinds[] = {1, 1, 1, 1, 1, 1, 1, 1, 1, 1, 1, 1, 1};
     static const float few[] = {1, 2, 3};
-    static const uint8_t before[] = {0, 1, 0x5a};
-    for (size_t i = 0; i < sizeof before; i++) {
-        for (uint8_t owed = 0; owed < 6; owed++) {
-            if (owed == 3 || owed == 4) {
-                continue;
-            }
-            uint8_t found = before[i];
-            uint8_t phase = 0x5a;
+    static const struct {
+        uint8_t code, mode;
+        size_t kinds_len, few_len;
+    } tried[] = {{SILLURWY_ACCEPTED, 1, 13, 0},
+                 {SILLURWY_BAD_MODE, 4, 13, 0},
+                 {SILLURWY_BAD_KINDS, 1, 12, 0},
+                 {SILLURWY_BAD_FLOATS, 1, 13, 3}};
+    static const uint8_t before[] = {0, 1, 77};
+    for (size_t i = 0; i < sizeof tried / sizeof *tried; i++) {
+        for (size_t k = 0; k < sizeof before; k++) {
+            uint8_t found = before[k], phase;
             float share;
-            uint32_t counts[SILLURWY_PHASES];
-            uint32_t lead;
-            fill(&share, sizeof share);
-            fill(counts, sizeof counts);
-            fill(&lead, sizeof lead);
-            uint8_t code = sillurwy_detect_sp_phase(
-                owed == SILLURWY_BAD_MODE ? 4 : 1, kinds, owed == SILLURWY_BAD_KINDS ? 12 : 13, few,
-                owed == SILLURWY_BAD_FLOATS ? 3 : 0, &found, &phase, &share, counts, &lead);
-            bool good = code == owed && phase == 0x5a && untouched(&share, sizeof share);
-            if (owed != 0) {
-                good &= found == before[i];
-                good &= untouched(counts, sizeof counts) && untouched(&lead, sizeof lead);
-            } else {
-                good &= found == 0 && lead == 0;
-            }
-            count(DETECT_SP_PHASE, good);
-        }
-    }
-}
-
-static void detect_mode(struct reader *in, const struct call *call)
-{
-    double *scratch = room(call->lent, sizeof *scratch);
-    uint8_t found = 0x5a;
-    uint8_t mode = 0x5a;
-    uint8_t guard = 0x5a;
-    size_t offset;
-    double parts[3];
-    fill(scratch, 8 * call->lent);
-    fill(&offset, sizeof offset);
-    fill(parts, sizeof parts);
-    uint8_t code = sillurwy_detect_mode(call->floats, call->len, call->first, call->first_len,
-                                        call->second, call->second_len, scratch, call->lent,
-                                        &found, &mode, &guard, &offset, &parts[0], &parts[1],
-                                        &parts[2]);
-    bool good = code == call->code;
-    if (call->code != 0) {
-        good &= found == 0x5a && untouched(scratch, 8 * call->lent);
-    } else {
-        answer_of(in, DETECT_MODE);
-        good &= number(in, 4) == found;
-        for (size_t i = 0; i < call->lent; i++) {
-            good &= f64_bits(scratch[i]) == 0;
-        }
-    }
-    if (call->code == 0 && found == 1) {
-        good &= number(in, 4) == mode;
-        good &= number(in, 4) == guard;
-        good &= number(in, 4) == offset;
-        for (size_t i = 0; i < 3; i++) {
-            good &= is_f64(in, parts[i]);
-        }
-    } else {
-        good &= mode == 0x5a && guard == 0x5a && untouched(&offset, sizeof offset);
-        good &= untouched(parts, sizeof parts);
-        if (call->code == 0) {
-            good &= are_zeros(in, 3 * 4 + 3 * 8);
-        }
-    }
-    count(DETECT_MODE, good);
-    free(scratch);
-}
-
-static void samples_needed(struct reader *in, const struct call *call)
-{
-    size_t samples;
-    fill(&samples, sizeof samples);
-    uint8_t code = sillurwy_samples_needed(call->first, call->first_len, call->second,
-                                           call->second_len, call->number, &samples);
-    bool good = code == call->code;
-    if (call->code != 0) {
-        good &= untouched(&samples, sizeof samples);
-    } else {
-        answer_of(in, SAMPLES_NEEDED);
-        good &= number(in, 4) == samples;
-    }
-    count(SAMPLES_NEEDED, good);
-}
-
-static void replay_acquire(struct reader *in)
-{
-    while (in->at < in->size) {
-        struct call call;
-        uint8_t operation = byte(in);
-        call.mode = byte(in);
-        call.filter = byte(in);
-        call.first_len = byte(in);
-        call.second_len = byte(in);
-        call.len = (size_t)number(in, 2);
-        call.number = (size_t)number(in, 2);
-        call.lent = (size_t)number(in, 2);
-        call.code = byte(in);
-        call.first = take(in, call.first_len);
-        call.second = take(in, call.second_len);
-        call.floats = floats(in, call.len);
-        switch (operation) {
-        case 1: integer_cfo(in, &call); break;
-        case 2: detect_kinds(in, &call); break;
-        case 3: tmcc_soft(in, &call); break;
-        case 4: detect_sp_phase(in, &call); break;
-        case 5: detect_mode(in, &call); break;
-        case 6: samples_needed(in, &call); break;
-        default: fail("has an operation that is not known", in->name);
-        }
-        free(call.floats);
-    }
-}
-
-/* ---- The grid ---- */
-
-/* What the grid holds before a call. */
-static const float held = 7;
-
-static bool are_held(const float *values, size_t len)
-{
-    bool good = true;
-    for (size_t i = 0; i < len; i++) {
-        good &= f32_bits(values[i]) == f32_bits(held);
-    }
-    return good;
-}
-
-static void replay_grid(struct reader *in)
-{
-    while (in->at < in->size) {
-        uint8_t mode = byte(in);
-        uint8_t phase = byte(in);
-        size_t kinds_len = byte(in);
-        size_t len = (size_t)number(in, 2);
-        size_t index = (size_t)number(in, 2);
-        size_t w = (size_t)number(in, 2);
-        size_t lent = (size_t)number(in, 2);
-        uint8_t owed = byte(in);
-        const uint8_t *kinds = take(in, kinds_len);
-        float *spectra = floats(in, len);
-        float *grid = room(lent, sizeof *grid);
-        for (size_t i = 0; i < lent + 1; i++) {
-            grid[i] = held;
-        }
-        uint8_t code = sillurwy_estimate_grid(mode, phase, kinds, kinds_len, spectra, len, index,
-                                              w, grid, lent);
-        bool good = code == owed && are_held(grid + lent, 1);
-        if (owed != 0) {
-            good &= are_held(grid, lent);
-        } else {
-            answer_of(in, ESTIMATE_GRID);
-            good &= are_f32(in, grid, lent);
-        }
-        count(ESTIMATE_GRID, good);
-        free(grid);
-        free(spectra);
-    }
-}
-
-/* ---- Floats ---- */
-
-static void replay_floats(struct reader *in)
-{
-    while (in->at < in->size) {
-        uint8_t function = byte(in);
-        if (function == 1) {
-            double x = f64_of(number(in, 8));
-            answer_of(in, ROOT);
-            count(ROOT, is_f64(in, sillurwy_root(x)));
-        } else if (function == 2) {
-            double x = f64_of(number(in, 8));
-            answer_of(in, NARROW);
-            count(NARROW, is_f32(in, sillurwy_narrow(x)));
-        } else if (function == 3) {
-            float re = f32_of((uint32_t)number(in, 4));
-            float im = f32_of((uint32_t)number(in, 4));
-            answer_of(in, NORM32);
-            count(NORM32, is_f32(in, sillurwy_norm32(re, im)));
-        } else if (function == 4) {
-            double re = f64_of(number(in, 8));
-            double im = f64_of(number(in, 8));
-            answer_of(in, NORM64);
-            count(NORM64, is_f64(in, sillurwy_norm64(re, im)));
-        } else {
-            fail("has a function that is not known", in->name);
+            uint32_t counts[SILLURWY_PHASES], lead;
+            uint8_t code = sillurwy_detect_sp_phase(tried[i].mode, kinds, tried[i].kinds_len, few,
+                                                    tried[i].few_len, &found, &phase, &share,
+                                                    counts, &lead);
+            bool good = found == (code == SILLURWY_ACCEPTED ? 0 : before[k]);
+            count(DETECT_SP_PHASE, code == tried[i].code && good);
         }
     }
 }
 
 int main(int words, char **word)
 {
-    if (words == 6) {
-        for (damaged = 0; damaged < FUNCTIONS && strcmp(names[damaged], word[5]) != 0;) {
-            damaged++;
+    for (size_t i = 1; words == 3 && i < FUNCTIONS; i++) {
+        if (strcmp(names[i], word[2]) == 0) {
+            damaged = i;
         }
     }
-    if (words != 5 && (words != 6 || damaged == FUNCTIONS)) {
-        fprintf(stderr, "usage: replay LAYOUT ACQUIRE GRID FLOATS [NAME]\n");
+    if (words != 2 && damaged == NO_FUNCTION) {
+        fprintf(stderr, "usage: replay FILE [NAME]\n");
         return 2;
     }
-    struct reader layout = opened(word[1]);
-    struct reader acquire = opened(word[2]);
-    struct reader grid = opened(word[3]);
-    struct reader values = opened(word[4]);
-    replay_layout(&layout);
-    replay_acquire(&acquire);
-    detect_no_sp_phase();
-    replay_grid(&grid);
-    replay_floats(&values);
-    free(layout.bytes);
-    free(acquire.bytes);
-    free(grid.bytes);
-    free(values.bytes);
+    read_file(word[1]);
+    while (at < size) {
+        replay_record();
+    }
+    if (calls[DETECT_SP_PHASE] > 0) {
+        detect_no_sp_phase();
+    }
+    free(bytes);
 
     unsigned long all = 0;
     unsigned long wrong = 0;
-    for (size_t i = 0; i < FUNCTIONS; i++) {
+    for (size_t i = 1; i < FUNCTIONS; i++) {
         printf("%-16s %6lu calls, %lu differ\n", names[i], calls[i], differing[i]);
         if (calls[i] == 0) {
             fail("was not called", names[i]);

@@ -30,14 +30,16 @@ use Rattle.shift.specs.Moves.{InRange, BeatsAll, MovedRound}
 use Rattle.shift.specs.MovedBins.{moved-below}
 use Rattle.shift.specs.Moved.{pattern-laid, ratios-no-minus, same-winner, moved-winner}
 use Rattle.shift.specs.Facts.{shift-number}
-use Rattle.guess.specs.Samples.{isMode, isGuard}
-use Rattle.guess.specs.Guess.{pairsIn, guessed, guessCode, guessAnswer}
+use Rattle.samples_needed.specs.Samples.{isMode, isGuard}
+use Rattle.correlation.specs.Correlation.{pairsIn}
+use Rattle.guess.specs.Guess.{guessed, guessCode, guessAnswer}
 use Rattle.guess.specs.Louder.{louder}
 use Rattle.guess.specs.Changed.{changed-guess}
 use Rattle.guess.specs.Facts.{search-number}
 use Rattle.guess.specs.declared.GuardSearch.{GuardSearch}
 use Rattle.guess.specs.declared.GuardSearch.the-variants as search
-use Rattle.pilot_phase.specs.PilotPhase.{phaseCode, leadOf}
+use Rattle.winner.specs.Winner.{leadOf}
+use Rattle.pilot_phase.specs.PilotPhase.{phaseCode}
 use Rattle.pilot_phase.specs.Facts.{phase-number}
 use Rattle.pilot_phase.specs.Changed.{changed-phase, changed-counts}
 use Rattle.segment_kinds.specs.SegmentKinds.{kindsCode, kindsLeaves, kindsAnswer, scoresAnswer, detectedKinds, kindScores}

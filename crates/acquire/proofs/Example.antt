@@ -15,7 +15,7 @@ use lib.IntN.{ℤ, pos, negsuc, natAbs, _+ℤ_, pos-ne-negsuc}
 use lib.ListN.{getD, length}
 use lib.Ieee.{Float, nan, binary32, ofBits, round, neg, add, sub, mul, div, lt, ofInt}
 use Rattle.ieee.specs.Constants.{plusZero, minusZero, lowest}
-use Rattle.ieee.specs.Root.{rootOf}
+use Rattle.root.specs.Root.{rootOf}
 use Rattle.ieee.specs.Narrow.{narrowOf}
 use Rattle.ieee.specs.Sums.{total}
 use Rattle.lists.specs.Lists.{upTo}

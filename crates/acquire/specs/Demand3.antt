@@ -31,7 +31,8 @@ use Rattle.shift.specs.Shift.{movedBin, pattern, shiftNumber, shiftLeaves, shif
 use Rattle.shift.specs.Moves.{InRange, BeatsAll, MovedRound}
 use Rattle.guess.specs.Guess.{searchNumber, guessAnswer}
 use Rattle.guess.specs.Louder.{louder}
-use Rattle.pilot_phase.specs.PilotPhase.{phaseNumber, phaseAnswer, countsAnswer, leadOf}
+use Rattle.winner.specs.Winner.{leadOf}
+use Rattle.pilot_phase.specs.PilotPhase.{phaseNumber, phaseAnswer, countsAnswer}
 use Rattle.segment_kinds.specs.SegmentKinds.{kindsCode, kindsLeaves, kindsAnswer, scoresAnswer}
 
 -- ---- refusals: the answer for ys has the number of the answer for xs, whatever the two hold; `mode` is any number, also one that is no mode.

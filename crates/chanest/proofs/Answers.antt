@@ -15,7 +15,7 @@ use Rattle.params.specs.declared.ModeNumber.the-variants.{Known, Unknown}
 use Rattle.frame.specs.Operations.{areKinds, layoutCode}
 use Rattle.frame.specs.Inner.{AcceptedLayout}
 use Rattle.frame.specs.Answers.{kinds-good}
-use Rattle.chanest.specs.declared.Current.{Current}
+use Rattle.pilot_times.specs.declared.Current.{Current}
 use Rattle.chanest.specs.Grid.{grid, windowCode, gridCode, gridLeaves, GridEstimated}
 
 module _ {number : ModeNumber} {kinds : List ℕ} {code : ℕ} {m : Mode} {read : List ℕ} (a : AcceptedLayout number kinds code m read)

@@ -9,53 +9,37 @@ use native.Mathlib.Decide.{decLt}
 use native.Mathlib.Nat.{suc-mul, zero-mul, mul-le-mul-right}
 use native.Mathlib.Numerals.{add-one}
 use native.Mathlib.Omega.{arith}
-use borrow.Author.Tests.{eq-eqb, ne-eqb, lt-ltb, le-ltb}
+use borrow.Author.Tests.{eq-eqb, ne-eqb, lt-ltb, le-ltb, ltb-true}
 use lib.Arith.{digits-div, digits-mod}
 use lib.Dec.{eqb, ltb}
-use lib.ListN.{getD, length}
+use lib.ListN.{length}
 use lib.Ieee.{Float}
-use Rattle.params.specs.declared.SegmentKind.the-variants.{Coherent, Differential}
-use Rattle.params.specs.Params.{kindFrom}
+use Rattle.lists.specs.Tests.{both-left}
+use Rattle.params.specs.declared.Mode.{Mode}
 use Rattle.params.specs.Laws.{sized}
-use Rattle.ofdm.specs.Band.{segmentAt}
 use Rattle.complex.specs.Complex.{Pair}
 use Rattle.spectra.specs.Spectra.{pairAt}
-use Rattle.chanest.specs.declared.Plan.{Plan}
-use Rattle.chanest.specs.Grid.{segmentPoints, gridPoints, coherentAt, valueAt, gridOf}
+use Rattle.pilot_times.specs.declared.Current.{Current}
+use Rattle.pilot_times.specs.declared.Window.{Window}
+use Rattle.chanest.specs.Grid.{segmentPoints, gridPoints, coherentAt, scatteredAt, continualAt, valueAt, gridOf}
 use Rattle.chanest.specs.Places.{pointed}
-use Rattle.chanest.specs.Inner.{Written, Writable, scatteredPoint, continualPoint, gridBy}
+use Rattle.chanest.specs.Inner.{Written, Writable}
 use Rattle.chanest.proofs.Writing.{kept, nothing, together, exchanged, whole}
 use Rattle.chanest.proofs.Points.{again}
 
--- ---- a place's kind
-coherent-code : (b : Bool) → cond b Coherent Differential ≡ Coherent → b ≡ true
-coherent-code true e = refl
-coherent-code false e = absurd (let z : _≡_ {A = ℕ} 0 1 = cc in omega arith)
-
-differential-code : (b : Bool) → cond b Coherent Differential ≡ Differential → b ≡ false
-differential-code true e = absurd (let z : _≡_ {A = ℕ} 0 1 = cc in omega arith)
-differential-code false e = refl
-
-module _ (kinds : List ℕ) {place : ℕ} (h : place < 13) where
-  pub coherent-there : kindFrom (getD kinds (segmentAt place) 0) ≡ Coherent → coherentAt kinds place ≡ true
-  coherent-there e = rw (lt-ltb place 13 h) (coherent-code (eqb (getD kinds (segmentAt place) 0) 0) e)
-
-  pub differential-there : kindFrom (getD kinds (segmentAt place) 0) ≡ Differential → coherentAt kinds place ≡ false
-  differential-there e = rw (lt-ltb place 13 h) (differential-code (eqb (getD kinds (segmentAt place) 0) 0) e)
-
 -- whether the place below is coherent
-abbrev pub closes : List ℕ → ℕ → Bool
-closes kinds place = ltb 0 place && coherentAt kinds (place - 1)
+abbrev pub closesAt : List ℕ → ℕ → Bool
+closesAt kinds place = ltb 0 place && coherentAt kinds (place - 1)
 
-module _ (plan : Plan) (kinds : List ℕ) (xs entry : List Float) where
+module _ (mode : Mode) (kinds : List ℕ) (xs : List Float) (current : Current) (entry : List Float) where
   abbrev n : ℕ
-  n = segmentPoints (plan .mode)
+  n = segmentPoints mode
 
-  abbrev pub value : ℕ → Pair
-  value i = valueAt (plan .mode) kinds xs (plan .win .current) (pairAt entry i) i
+  abbrev value : List Float → ℕ → Pair
+  value old i = valueAt mode kinds xs current (pairAt old i) i
 
   some : 0 < n
-  some = omega (arith, sized (plan .mode) .carriers-low)
+  some = omega (arith, sized mode .carriers-low)
 
   -- ---- the definition at a point of a place
   module _ (place : ℕ) {i : ℕ} (l : place * n ≤ i) (h : i < place * n + n) where
@@ -66,18 +50,18 @@ module _ (plan : Plan) (kinds : List ℕ) (xs entry : List Float) where
     rest = let e : i ≡ place * n + (i - place * n) = omega arith in ap (λ (j : ℕ). j % n) e ∙ digits-mod place (omega arith)
 
     abbrev pick : Bool → Bool → Pair
-    pick a b = cond a (scatteredPoint plan xs i) (cond b (continualPoint plan xs i) (pairAt entry i))
+    pick a b = cond a (scatteredAt mode xs current i) (cond b (continualAt mode xs current i) (pairAt entry i))
 
-    value-is : value i ≡ pick (coherentAt kinds place) (eqb (i - place * n) 0 && (ltb 0 i && coherentAt kinds (place - 1)))
+    value-is : value entry i ≡ pick (coherentAt kinds place) (eqb (i - place * n) 0 && (ltb 0 i && coherentAt kinds (place - 1)))
     unfolding valueAt
     value-is = λ t. pick (coherentAt kinds (over t)) (eqb (rest t) 0 && (ltb 0 i && coherentAt kinds (over t - 1)))
 
-    pub scattered : coherentAt kinds place ≡ true → scatteredPoint plan xs i ≡ value i
+    pub scattered : coherentAt kinds place ≡ true → scatteredAt mode xs current i ≡ value entry i
     scattered e = sym (value-is ∙ ap (λ (a : Bool). pick a (eqb (i - place * n) 0 && (ltb 0 i && coherentAt kinds (place - 1)))) e)
 
     module _ (e : coherentAt kinds place ≡ false) where
       -- the lowest point of the place
-      lowest : i ≡ place * n → value i ≡ cond (closes kinds place) (continualPoint plan xs i) (pairAt entry i)
+      lowest : i ≡ place * n → value entry i ≡ cond (closesAt kinds place) (continualAt mode xs current i) (pairAt entry i)
       lowest z = value-is ∙ (λ t. pick (e t) (starts t && (sign (decLt 0 place) t && coherentAt kinds (place - 1))))
         where
           starts : eqb (i - place * n) 0 ≡ true
@@ -93,113 +77,105 @@ module _ (plan : Plan) (kinds : List ℕ) (xs entry : List Float) where
               le-ltb 0 i (omega arith) ∙ sym (le-ltb 0 place (omega arith))
 
       -- the others
-      upper : place * n < i → value i ≡ pairAt entry i
+      upper : place * n < i → value entry i ≡ pairAt entry i
       upper z = value-is ∙ (λ t. pick (e t) (ne-eqb (i - place * n) 0 (λ y. omega arith) t && (ltb 0 i && coherentAt kinds (place - 1))))
 
-      pub closing : closes kinds place ≡ true → i ≡ place * n → continualPoint plan xs i ≡ value i
-      closing g z = sym (lowest z ∙ ap (λ (b : Bool). cond b (continualPoint plan xs i) (pairAt entry i)) g)
+      pub closing : closesAt kinds place ≡ true → i ≡ place * n → continualAt mode xs current i ≡ value entry i
+      closing g z = sym (lowest z ∙ ap (λ (b : Bool). cond b (continualAt mode xs current i) (pairAt entry i)) g)
 
-      pub outside : (i ≡ place * n → closes kinds place ≡ false) → pairAt entry i ≡ value i
+      pub outside : (i ≡ place * n → closesAt kinds place ≡ false) → pairAt entry i ≡ value entry i
       outside g = by (decLt (place * n) i)
         where
-          by : Dec (place * n < i) → pairAt entry i ≡ value i
+          by : Dec (place * n < i) → pairAt entry i ≡ value entry i
           by (yes p) = sym (upper p)
           by (no p) =
               let z : i ≡ place * n = omega arith in
-              sym (lowest z ∙ ap (λ (b : Bool). cond b (continualPoint plan xs i) (pairAt entry i)) (g z))
+              sym (lowest z ∙ ap (λ (b : Bool). cond b (continualAt mode xs current i) (pairAt entry i)) (g z))
 
-  -- ---- m points more, from a place on that is not coherent
-  module _ (place : ℕ) {m : ℕ} {now : List Float} (e : coherentAt kinds place ≡ false) (few : m ≤ n) (w : Written value 0 (place * n) entry now) where
-    pub untouched : closes kinds place ≡ false → Written value 0 (place * n + m) entry now
-    untouched g =
-        together (omega arith) (omega arith) w
-        (kept value (place * n) (place * n + m) now (λ i l h. w .above i l ∙ outside place l (omega arith) e (λ z. g)))
+  -- ---- the points of a place
+  module _ (place : ℕ) where
+    coherent-place : {now : List Float} → coherentAt kinds place ≡ true
+        → Written (scatteredAt mode xs current) (place * n) (place * n + n) entry now → Written (value entry) (place * n) (place * n + n) entry now
+    coherent-place e p = exchanged p (λ i l b. scattered place l b e)
 
-    pub with-closing : {now' : List Float} → 0 < m → closes kinds place ≡ true → Written (continualPoint plan xs) (place * n) (place * n + 1) now now'
-        → Written value 0 (place * n + m) entry now'
-    with-closing {now'} some-more g p =
-        together (omega arith) (omega arith) w
-        (together (omega arith) (omega arith) (exchanged p (λ i l h. closing place l (omega (arith, some)) e g (omega arith)))
-        (kept value (place * n + 1) (place * n + m) now'
-        (λ i l h.
-        let same = outside place (omega arith) (omega arith) e (λ z. absurd (omega arith)) in
-        p .above i l ∙ (w .above i (omega arith) ∙ same))))
+    module _ (e : coherentAt kinds place ≡ false) where
+      open-place : closesAt kinds place ≡ false → Written (value entry) (place * n) (place * n + n) entry entry
+      open-place g = kept (value entry) (place * n) (place * n + n) entry (λ i l h. outside place l h e (λ z. g))
+
+      closed-place : {now : List Float} → closesAt kinds place ≡ true
+          → Written (continualAt mode xs current) (place * n) (place * n + 1) entry now → Written (value entry) (place * n) (place * n + n) entry now
+      closed-place {now} g p =
+          together (omega arith) (omega (arith, some)) (exchanged p (λ i l h. closing place l (omega (arith, some)) e g (omega arith)))
+          (kept (value entry) (place * n + 1) (place * n + n) now
+          (λ i l h. p .above i l ∙ outside place (omega arith) h e (λ z. absurd (omega arith))))
 
   -- ---- the points below a place
   pub record WrittenTo (place : ℕ) (below : Bool) (now : List Float) : Type 0 where
-    pub passed : place ≤ 13
-    pub under : below ≡ closes kinds place
-    pub lower : Written value 0 (place * n) entry now
+    pub passed : place ≤ 14
+    pub under : below ≡ closesAt kinds place
+    pub lower : Written (value entry) 0 (place * n) entry now
 
   pub begin : WrittenTo 0 false entry
-  begin = record { passed = omega arith; under = refl; lower = rw zero-mul (nothing value 0 entry) }
+  begin = record { passed = omega arith; under = refl; lower = rw zero-mul (nothing (value entry) 0 entry) }
 
-  module _ {place : ℕ} {below : Bool} {now : List Float} (w : WrittenTo place below now) where
-    next : (place + 1) * n ≡ place * n + n
-    next = ap (λ (k : ℕ). k * n) (add-one place) ∙ suc-mul place n
+  -- behind the last place lies the whole grid
+  pub all : {place : ℕ} {below : Bool} {now : List Float} → WrittenTo place below now → 14 ≤ place → length entry ≡ 2 * gridPoints mode
+      → now ≡ gridOf mode kinds xs current entry
+  unfolding gridOf
+  all {place} w h size =
+      let z : place ≡ 14 = omega (arith, w .passed) in
+      whole size (omega (arith, pointed mode .all, sized mode .carriers-low)) (rw z at (w .lower))
 
-    pub still : {signs : List ℕ} → Writable plan xs signs entry → Writable plan xs signs now
-    still W = again W now (w .lower .size)
+-- ---- a place more, `from` being its lowest point
+module _ (mode : Mode) (kinds : List ℕ) (xs : List Float) (current : Current) (entry : List Float) {place : ℕ} {below : Bool} {now : List Float}
+    (w : WrittenTo mode kinds xs current entry place below now) (h : place < 14) {from : ℕ} (at : from ≡ place * segmentPoints mode) where
+  abbrev m : ℕ
+  m = segmentPoints mode
 
-    above-it : (k : ℕ) → closes kinds (k + 1) ≡ coherentAt kinds k
-    above-it k = let z : k + 1 - 1 ≡ k = omega arith in λ t. lt-ltb 0 (k + 1) (omega arith) t && coherentAt kinds (z t)
+  above-it : closesAt kinds (place + 1) ≡ coherentAt kinds place
+  above-it = let z : place + 1 - 1 ≡ place = omega arith in λ t. lt-ltb 0 (place + 1) (omega arith) t && coherentAt kinds (z t)
 
-    -- `from` is the lowest point of the place
-    module _ (h : place < 13) {from : ℕ} (at : from ≡ place * n) where
-      pub part-ends : from + n ≤ 13 * n
-      part-ends = rw at (rw suc-mul at (mul-le-mul-right n h))
+  next : (place + 1) * m ≡ place * m + m
+  next = ap (λ (k : ℕ). k * m) (add-one place) ∙ suc-mul place m
 
-      pub again-coherent : {now' : List Float} → coherentAt kinds place ≡ true → Written (scatteredPoint plan xs) from (from + n) now now'
-          → WrittenTo (place + 1) true now'
-      again-coherent e p =
-          let q : Written (scatteredPoint plan xs) (place * n) (place * n + n) now _ = rw at at p in
-          record {
-            passed = omega arith;
-            under = sym (above-it place ∙ e);
-            lower = rw next (together (omega arith) (omega arith) (w .lower) (exchanged q (λ i l b. scattered place l b e)));
-          }
+  -- what is written of the place, of what the places below left
+  further : {coherent : Bool} {now' : List Float} → coherent ≡ coherentAt kinds place
+      → Written (λ i. valueAt mode kinds xs current (pairAt now i) i) (place * m) (place * m + m) now now'
+      → WrittenTo mode kinds xs current entry (place + 1) coherent now'
+  further e p =
+      record {
+        passed = omega arith;
+        under = e ∙ sym above-it;
+        lower =
+            rw next
+            (together (omega arith) (omega arith) (w .lower)
+            (exchanged p (λ i u b. ap (λ (v : Pair). valueAt mode kinds xs current v i) (w .lower .above i u))));
+      }
 
-      module _ (e : coherentAt kinds place ≡ false) where
-        pub again-closed : {now' : List Float} → below ≡ true → Written (continualPoint plan xs) from (from + 1) now now'
-            → WrittenTo (place + 1) false now'
-        again-closed b p =
-            let q : Written (continualPoint plan xs) (place * n) (place * n + 1) now _ = rw at at p in
-            record {
-              passed = omega arith;
-              under = sym (above-it place ∙ e);
-              lower = rw next (with-closing place e (omega arith) (w .lower) some (sym (w .under) ∙ b) q);
-            }
+  pub still : {win : Window} {signs : List ℕ} → Writable mode win xs signs entry → Writable mode win xs signs now
+  still W = again W now (w .lower .size)
 
-        pub again-open : below ≡ false → WrittenTo (place + 1) false now
-        again-open b =
-            record {
-              passed = omega arith;
-              under = sym (above-it place ∙ e);
-              lower = rw next (untouched place e (omega arith) (w .lower) (sym (w .under) ∙ b));
-            }
+  -- a coherent place is no edge, and its points end within the band
+  pub part-ends : coherentAt kinds place ≡ true → from + m ≤ 13 * m
+  part-ends e =
+      let within : place < 13 = ltb-true _ _ (both-left (ltb place 13) _ e) in
+      rw at (rw suc-mul at (mul-le-mul-right m within))
 
-    -- ---- the edge, and the point that is never written
-    module _ (h : 13 ≤ place) (size : length entry ≡ 2 * gridPoints (plan .mode)) where
-      last : place ≡ 13
-      last = omega (arith, w .passed)
+  pub low : from ≤ 13 * m
+  low = rw at (mul-le-mul-right m (omega arith))
 
-      grown : {now' : List Float} → Written value 0 (13 * n + 2) entry now' → now' ≡ gridBy plan kinds xs entry
-      unfolding gridOf
-      grown {now'} p =
-          let q : Written value 0 (gridPoints (plan .mode)) entry now' = rw (pointed (plan .mode) .all) p in
-          whole size q
+  module _ {coherent : Bool} (e : coherent ≡ coherentAt kinds place) where
+    pub again-coherent : {now' : List Float} → coherent ≡ true → Written (scatteredAt mode xs current) from (from + m) now now'
+        → WrittenTo mode kinds xs current entry (place + 1) coherent now'
+    again-coherent c p =
+        let q : Written (scatteredAt mode xs current) (place * m) (place * m + m) now _ = rw at at p in
+        further e (coherent-place mode kinds xs current now place (sym e ∙ c) q)
 
-      at-edge : Written value 0 (13 * n) entry now
-      at-edge = rw last at (w .lower)
+    pub again-closed : {now' : List Float} → coherent ≡ false → below ≡ true → Written (continualAt mode xs current) from (from + 1) now now'
+        → WrittenTo mode kinds xs current entry (place + 1) coherent now'
+    again-closed c b p =
+        let q : Written (continualAt mode xs current) (place * m) (place * m + 1) now _ = rw at at p in
+        further e (closed-place mode kinds xs current now place (sym e ∙ c) (sym (w .under) ∙ b) q)
 
-      two : 2 ≤ n
-      two = omega (arith, sized (plan .mode) .carriers-low)
-
-      pub all-closed : {edge : ℕ} {now' : List Float} → edge ≡ 13 * n → below ≡ true → Written (continualPoint plan xs) edge (edge + 1) now now'
-          → now' ≡ gridBy plan kinds xs entry
-      all-closed at b p =
-          let q : Written (continualPoint plan xs) (13 * n) (13 * n + 1) now _ = rw at at p in
-          grown (with-closing 13 refl two at-edge (omega arith) (rw last at (sym (w .under) ∙ b)) q)
-
-      pub all-open : below ≡ false → now ≡ gridBy plan kinds xs entry
-      all-open b = grown (untouched 13 refl two at-edge (rw last at (sym (w .under) ∙ b)))
+    pub again-open : coherent ≡ false → below ≡ false → WrittenTo mode kinds xs current entry (place + 1) coherent now
+    again-open c b = further e (open-place mode kinds xs current now place (sym e ∙ c) (sym (w .under) ∙ b))

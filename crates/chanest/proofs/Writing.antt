@@ -59,6 +59,6 @@ together {f} {a} {b} {c} {old} {mid} {now} l m p q =
 pub exchanged : {f g : ℕ → Pair} {a b : ℕ} {old now : List Float} → Written f a b old now → ((i : ℕ) → a ≤ i → i < b → f i ≡ g i) → Written g a b old now
 exchanged w h = record { size = w .size; written = λ i l m. w .written i l m ∙ h i l m; below = w .below; above = w .above }
 
--- all of it
-pub whole : {f : ℕ → Pair} {n : ℕ} {old now : List Float} → length old ≡ 2 * n → Written f 0 n old now → now ≡ flat (upTo f n)
-whole {f} {n} {old} {now} l w = flat-own f n now (w .size ∙ l) (λ i h. w .written i (omega arith) h)
+-- all of it, and perhaps more
+pub whole : {f : ℕ → Pair} {n m : ℕ} {old now : List Float} → length old ≡ 2 * n → n ≤ m → Written f 0 m old now → now ≡ flat (upTo f n)
+whole {f} {n} {m} {old} {now} l s w = flat-own f n now (w .size ∙ l) (λ i h. w .written i (omega arith) (omega arith))

@@ -12,7 +12,7 @@ use Rattle.params.specs.Params.{totalCarriers}
 use Rattle.spectra.specs.Spectra.{spectraIn, spectraCode}
 use Rattle.spectra.specs.Codes.{later-counts}
 use Rattle.spectra.specs.Codes.{accepted as spectra-accepted}
-use Rattle.chanest.specs.declared.Current.{Current}
+use Rattle.pilot_times.specs.declared.Current.{Current}
 use Rattle.chanest.specs.Grid.{gridPoints, windowCode}
 
 module _ (mode : Mode) (floats : ℕ) (current : Current) (n : ℕ) where

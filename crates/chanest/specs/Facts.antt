@@ -30,14 +30,15 @@ use Rattle.frame.specs.Operations.{areKinds}
 use Rattle.frame.specs.Roles.{OfdmSegment, roleByte, placeRole, bandRoles, wideSegment, wide}
 use Rattle.frame.specs.Rules.{segmentIn}
 use Rattle.frame.specs.OneRole.{map-says}
-use Rattle.chanest.specs.declared.Current.{Current}
-use Rattle.chanest.specs.declared.Window.{Window}
-use Rattle.chanest.specs.declared.Offsets.{Offsets}
-use Rattle.chanest.specs.Line.{lineAtZero}
-use Rattle.chanest.specs.Window.{scatteredOffsets, inWindow, phaseIn, carrierIn, pointsIn, estimateOf}
+use Rattle.pilot_times.specs.declared.Current.{Current}
+use Rattle.pilot_times.specs.declared.Window.{Window}
+use Rattle.pilot_times.specs.declared.Offsets.{Offsets}
+use Rattle.pilot_times.specs.Window.{atLeastOne, scatteredOffsets, inWindow, phaseIn}
+use Rattle.pilot_times.specs.Reaching.{in-window}
+use Rattle.pilot_line.specs.Line.{lineAtZero}
+use Rattle.pilot_line.specs.Estimate.{carrierIn, pointsIn, estimateOf}
 use Rattle.chanest.specs.Grid.{carrierOf, segmentPoints, gridPoints, coherentAt, isScattered, isClosing, backOf, windowOf}
-use Rattle.chanest.specs.Grid.{estimateAt, scatteredAt, continualAt, valueAt, gridOf, atLeastOne, grid, windowCode, gridCode, gridLeaves}
-use Rattle.chanest.specs.Reaching.{in-window}
+use Rattle.chanest.specs.Grid.{estimateAt, scatteredAt, continualAt, valueAt, gridOf, grid, windowCode, gridCode, gridLeaves}
 use Rattle.chanest.specs.Places.{pointed, same-place, place-in-segment, in-phase, inside, below, closes}
 use Rattle.chanest.specs.Codes.{accepted}
 

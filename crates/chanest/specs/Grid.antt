@@ -7,7 +7,7 @@ use mathlib.Core.List.{List}
 use mathlib.Core.Path.{_≡_}
 use lib.Dec.{eqb, leb, ltb}
 use lib.ListN.{getD, length}
-use lib.Ieee.{Float, binary32, div, ofBits}
+use lib.Ieee.{Float}
 use Rattle.lists.specs.Lists.{upTo}
 use Rattle.lists.specs.Refusals.{unless}
 use Rattle.params.specs.declared.Mode.{Mode}
@@ -18,12 +18,13 @@ use Rattle.ofdm.specs.declared.BandCarrier.{BandCarrier}
 use Rattle.ofdm.specs.Band.{segmentAt}
 use Rattle.complex.specs.Complex.{Pair}
 use Rattle.spectra.specs.Spectra.{pairAt, flat, spectraIn, spectraCode}
-use Rattle.prbs.specs.Signs.{bandSigns, pilotValue}
+use Rattle.prbs.specs.Signs.{bandSigns}
 use Rattle.frame.specs.Operations.{areKinds}
-use Rattle.chanest.specs.declared.Current.{Current}
-use Rattle.chanest.specs.declared.Window.{Window}
-use Rattle.chanest.specs.declared.Offsets.{Offsets}
-use Rattle.chanest.specs.Window.{scatteredOffsets, continualOffsets, inWindow, estimateOf}
+use Rattle.pilot_times.specs.declared.Current.{Current}
+use Rattle.pilot_times.specs.declared.Window.{Window}
+use Rattle.pilot_times.specs.declared.Offsets.{Offsets}
+use Rattle.pilot_times.specs.Window.{atLeastOne, scatteredOffsets, continualOffsets, inWindow}
+use Rattle.pilot_line.specs.Estimate.{inverseOf, estimateOf}
 
 -- ---- where the points lie: point i is carrier 3 i
 abbrev pub carrierOf : ℕ → BandCarrier
@@ -52,10 +53,6 @@ isClosing mode kinds i = eqb (i % segmentPoints mode) 0 && (ltb 0 i && coherentA
 abbrev pub backOf : Current → ℕ → ℕ
 backOf current i = (current .phase + 4 - i % 4) % 4
 
--- 1.0 divided by the pilot of a sign
-abbrev pub inverseOf : ℕ → Float
-inverseOf sign = div binary32 (ofBits binary32 0x3f80_0000) (pilotValue sign .re)
-
 -- the window that xs are
 abbrev pub windowOf : Mode → List Float → Current → Window
 windowOf mode xs current = record { len = totalCarriers mode; count = spectraIn (totalCarriers mode) (length xs); current = current }
@@ -81,10 +78,6 @@ valueAt mode kinds xs current old i =
 
 unfoldable pub gridOf : Mode → List ℕ → List Float → Current → List Float → List Float
 gridOf mode kinds xs current old = flat (upTo (λ i. valueAt mode kinds xs current (pairAt old i) i) (gridPoints mode))
-
--- a time window of 0 counts as 1
-abbrev pub atLeastOne : Current → Current
-atLeastOne current = record { phase = current .phase; index = current .index; w = cond (eqb (current .w) 0) 1 (current .w) }
 
 abbrev pub grid : Mode → List ℕ → List Float → Current → List Float → List Float
 grid mode kinds xs current old = gridOf mode kinds xs (atLeastOne current) old

@@ -2,7 +2,7 @@
 -- pairs serves both widths, since every f32 is an f64, and the format says where it is rounded.
 -- Definitions only.
 use lib.Ieee.{Float, Format, binary64, neg, add, sub, mul, div}
-use Rattle.ieee.specs.Root.{rootOf}
+use Rattle.root.specs.Root.{rootOf}
 use Rattle.ieee.specs.Narrow.{narrowOf}
 use Rattle.complex.specs.declared.C32.{C32}
 use Rattle.complex.specs.declared.C64.{C64}

@@ -14,7 +14,7 @@ use Rattle.ieee.specs.Signs.{negative, square-sign, plus-sign}
 use Rattle.ieee.specs.Levels as Levels
 use Rattle.ieee.specs.Levels.{Level, Scaled, roomy, many, grain}
 use Rattle.ieee.specs.Gain.{times-scaled, plus-scaled, minus-scaled, neg-scaled, one-scaled, roomy-one}
-use Rattle.ieee.specs.RootGain.{root-scaled, narrow-root-scaled}
+use Rattle.root.specs.RootGain.{root-scaled, narrow-root-scaled}
 use Rattle.complex.specs.Complex.{Pair, product, conjugate, plus, minus, squaredSize, scaled, norm64, norm32}
 
 pub record BothScaled (l : Level) (k : ℕ) (x y : Pair) : Type 0 where

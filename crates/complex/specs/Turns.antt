@@ -6,7 +6,7 @@ use mathlib.Core.Bool.{Bool, true, false}
 use mathlib.Core.Path.{_≡_, refl, ap, _∙_, subst}
 use lib.Ieee.{Float, Format, binary64, unlike, neg, add, sub, mul}
 use Rattle.ieee.specs.Narrow.{narrowOf}
-use Rattle.ieee.specs.Root.{rootOf}
+use Rattle.root.specs.Root.{rootOf}
 use Rattle.ieee.specs.Signs.{plus-comm, times-neg, times-neg-r, times-neg-neg, neg-neg, flip, times-flip, times-flip-both, square-flip, neg-flip}
 use Rattle.ieee.specs.Zeros.{canon, plus-flip, plus-alike, times-alike, square-alike}
 use Rattle.complex.specs.Changes.{negated, turned, turnIf}

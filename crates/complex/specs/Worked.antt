@@ -4,7 +4,7 @@ use mathlib.Core.Path.{_≡_, refl}
 use mathlib.Core.Bool.{true, false}
 use lib.IntN.{pos}
 use lib.Ieee.{fin}
-use Rattle.ieee.specs.Root.{rootOf}
+use Rattle.root.specs.Root.{rootOf}
 use Rattle.ieee.specs.Narrow.{narrowOf}
 use Rattle.complex.specs.Complex.{pair, norm32, norm64}
 

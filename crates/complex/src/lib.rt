@@ -99,7 +99,7 @@ impl C32 {
     pub fn norm(self) -> f32
         ensures { λ r. ⌜ r ≡ norm32 (of32 self) ⌝ }
     {
-        ieee::narrow_root(self.wide_norm_sqr())
+        root::narrow_root(self.wide_norm_sqr())
     }
 
     // The same numbers as f64.
@@ -182,6 +182,6 @@ impl C64 {
     pub fn norm(self) -> f64
         ensures { λ r. ⌜ r ≡ norm64 (of64 self) ⌝ }
     {
-        ieee::root(self.norm_sqr())
+        root::root(self.norm_sqr())
     }
 }

@@ -3,13 +3,14 @@
 use Prim.Native.Nat.{ℕ, _+_, _<_, _≤_}
 use mathlib.Core.Bool.{Bool, true, false}
 use mathlib.Core.List.{List}
-use mathlib.Core.Path.{_≡_, sym, ap, _∙_}
+use mathlib.Core.Path.{_≡_, refl, sym, ap, _∙_}
 use native.Mathlib.Numerals.{add-one}
 use native.Mathlib.Omega.{arith}
 use borrow.Author.Tests.{eq-eqb, ne-eqb, le-leb, lt-leb}
 use lib.Dec.{leb}
 use lib.ListN.{length, getD, take, drop, set, replicate, length-set, drop-of-length-le}
 use lib.Seq.{take-suc, take-suc-set, take-all}
+use Rattle.lists.specs.Refusals.{unless}
 use Rattle.lists.specs.Tests.{allIn, allIn-stop, allIn-pass}
 use Rattle.params.specs.declared.Mode.{Mode}
 use Rattle.params.specs.declared.Mode.the-variants.{M1}
@@ -19,8 +20,8 @@ use Rattle.frame.specs.Operations.{areKinds, layoutCode, layoutMode, lay
 use Rattle.frame.specs.Inner.{AcceptedKinds, AcceptedLayout}
 
 -- not thirteen
-pub miscounted : (kinds : List ℕ) → (length kinds ≡ 13 → ⊥) → AcceptedKinds kinds false (replicate 13 0)
-miscounted kinds h = record { test = rw (ne-eqb (length kinds) 13 h); held = rw (ne-eqb (length kinds) 13 h) }
+pub miscounted : (kinds : List ℕ) → (length kinds ≡ 13 → ⊥) → AcceptedKinds kinds 2 (replicate 13 0)
+miscounted kinds h = record { refusal = rw (ne-eqb (length kinds) 13 h); held = rw (ne-eqb (length kinds) 13 h) }
 
 module _ (kinds : List ℕ) where
   pub record Reading (i : ℕ) (read : List ℕ) : Type 0 where
@@ -45,17 +46,17 @@ module _ (kinds : List ℕ) where
     tested b e = rw (eq-eqb (length kinds) 13 (r .all)) (r .rest ∙ e)
 
     -- a byte that is no kind
-    pub no-kind : i < 13 → 1 < getD kinds i 0 → AcceptedKinds kinds false (replicate 13 0)
+    pub no-kind : i < 13 → 1 < getD kinds i 0 → AcceptedKinds kinds 2 (replicate 13 0)
     no-kind h bad =
         let e = tested false (allIn-stop (λ k. leb k 1) kinds i (omega (arith, r .all)) (lt-leb _ _ bad)) in
-        record { test = sym e; held = rw e }
+        record { refusal = rw e; held = rw e }
 
-    pub all-read : 13 ≤ i → AcceptedKinds kinds true read
+    pub all-read : 13 ≤ i → AcceptedKinds kinds 0 read
     all-read h =
         let k : length kinds ≤ i = omega (arith, r .all) in
         let l : length read ≤ i = omega (arith, r .size) in
         let e = tested true (ap (allIn (λ k. leb k 1)) (drop-of-length-le kinds k)) in
-        record { test = sym e; held = rw e (sym (take-all i read l) ∙ (r .front ∙ take-all i kinds k)) }
+        record { refusal = rw e; held = rw e (sym (take-all i read l) ∙ (r .front ∙ take-all i kinds k)) }
 
 -- a mode and its kinds: refused by the mode, by the kinds, or accepted
 module _ (number : ModeNumber) (kinds : List ℕ) where
@@ -70,25 +71,19 @@ module _ (number : ModeNumber) (kinds : List ℕ) where
         same = λ z. absurd (omega arith);
       }
 
-  module _ (m : Mode) (read : List ℕ) (good : Bool) (e : number ≡ Known m) (a : AcceptedKinds kinds good read) where
-    pub bad-kinds : good ≡ false → AcceptedLayout number kinds 2 m read
-    unfolding layoutCode layoutMode layoutKinds
-    bad-kinds b =
-        record {
-          refusal = rw (e, ← a .test, b);
-          holds-mode = rw e;
-          holds-kinds = rw e (a .held);
-          known = λ z. absurd (omega arith);
-          same = λ z. absurd (omega arith);
-        }
+  -- the kinds decide where the mode is good
+  module _ (m : Mode) (read : List ℕ) (code : ℕ) (e : number ≡ Known m) (a : AcceptedKinds kinds code read) where
+    good : (b : Bool) → _≡_ {A = ℕ} (unless b 2 0) 0 → b ≡ true
+    good true z = refl
+    good false z = absurd (omega arith)
 
-    pub accepted : good ≡ true → AcceptedLayout number kinds 0 m read
+    pub by-kinds : AcceptedLayout number kinds code m read
     unfolding layoutCode layoutMode layoutKinds
-    accepted b =
+    by-kinds =
         record {
-          refusal = rw (e, ← a .test, b);
+          refusal = rw e (a .refusal);
           holds-mode = rw e;
           holds-kinds = rw e (a .held);
           known = λ z. e;
-          same = λ z. a .held ∙ rw (sym (a .test) ∙ b);
+          same = λ z. a .held ∙ rw (good (areKinds kinds) (sym (a .refusal) ∙ z));
         }

@@ -110,7 +110,7 @@ module _ (mode : Mode) (seg : ℕ) (kind : SegmentKind) (phase : ℕ) (old : Lis
       pub tmcc-markable : Markable r1 out
       tmcc-markable = markable _ _ _ _ l1 (tmcc-short mode kind seg (i .row-below)) (tmcc-below mode kind seg (i .row-below)) size0
 
-      module _ (b1 : ℕ) (out1 : List ℕ) (e1 : b1 ≡ roleByte Tmcc) (m1 : out1 ≡ marked r1 b1 out) where
+      module _ (out1 : List ℕ) (m1 : out1 ≡ marked r1 (roleByte Tmcc) out) where
         size1 : length out1 ≡ carriersPerSegment mode
         size1 = ap length m1 ∙ (length-marked _ _ _ ∙ size0)
 
@@ -118,16 +118,15 @@ module _ (mode : Mode) (seg : ℕ) (kind : SegmentKind) (phase : ℕ) (old : Lis
           pub ac1-markable : Markable r2 out1
           ac1-markable = markable _ _ _ _ l2 (ac1-short mode kind seg (i .row-below)) (ac1-below mode kind seg (i .row-below)) size1
 
-          module _ (b2 : ℕ) (out2 : List ℕ) (e2 : b2 ≡ roleByte (Ac Ac1)) (m2 : out2 ≡ marked r2 b2 out1) where
+          module _ (out2 : List ℕ) (m2 : out2 ≡ marked r2 (roleByte (Ac Ac1)) out1) where
             module _ (r3 : Positions) (l3 : Listed r3 (ac2Of mode kind seg)) where
               pub ac2-markable : Markable r3 out2
               ac2-markable =
                   markable _ _ _ _ l3 (ac2-short mode kind seg (i .row-below)) (ac2-below mode kind seg (i .row-below))
                   (ap length m2 ∙ (length-marked _ _ _ ∙ size1))
 
-              pub all-marked : (b3 : ℕ) (out3 : List ℕ) → b3 ≡ roleByte (Ac Ac2) → out3 ≡ marked r3 b3 out2
-                  → out3 ≡ segmentRoles mode phase (ofdmSegment seg kind)
-              all-marked b3 out3 e3 m3 =
+              pub all-marked : (out3 : List ℕ) → out3 ≡ marked r3 (roleByte (Ac Ac2)) out2 → out3 ≡ segmentRoles mode phase (ofdmSegment seg kind)
+              all-marked out3 m3 =
                   m3
-                  ∙ (rw (l3 .places, e3, m2, l2 .places, e2, m1, l1 .places, e1, w, i .room)
+                  ∙ (rw (l3 .places, m2, l2 .places, m1, l1 .places, w, i .room)
                   (rows-marked mode (ofdmSegment seg kind) phase (i .row-below) (i .phase-below)))

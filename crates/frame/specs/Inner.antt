@@ -2,10 +2,11 @@
 -- from them to `Roles` are in proofs/.
 -- Definitions only.
 use Prim.Native.Nat.{ℕ, _≤_, _<_}
-use mathlib.Core.Bool.{Bool, false}
+use mathlib.Core.Bool.{false}
 use mathlib.Core.List.{List, [], _∷_}
 use mathlib.Core.Path.{_≡_}
 use lib.ListN.{length, getD, take, set}
+use Rattle.lists.specs.Refusals.{unless}
 use Rattle.params.specs.declared.Mode.{Mode}
 use Rattle.params.specs.declared.ModeNumber.{ModeNumber}
 use Rattle.params.specs.declared.ModeNumber.the-variants.{Known}
@@ -39,9 +40,9 @@ pub record InSegment (mode : Mode) (row phase : ℕ) (out : List ℕ) : Type 0 w
   pub phase-below : phase < 4
   pub room : length out ≡ carriersPerSegment mode
 
--- kinds from outside: whether they are good, and what a layout holds of them
-pub record AcceptedKinds (kinds : List ℕ) (good : Bool) (read : List ℕ) : Type 0 where
-  pub test : good ≡ areKinds kinds
+-- kinds from outside: what refuses them, and what a layout holds of them
+pub record AcceptedKinds (kinds : List ℕ) (code : ℕ) (read : List ℕ) : Type 0 where
+  pub refusal : code ≡ unless (areKinds kinds) 2 0
   pub held : read ≡ heldKinds kinds
 
 -- a layout's refusal, what it holds for every input, and what an accepted one holds

@@ -23,6 +23,21 @@ use params::ModeNumber;
 use params::SegmentKind;
 use tables::Positions;
 
+// Role bytes.
+pub const DATA: u8 = 0;
+
+pub const SP: u8 = 1;
+
+pub const CP: u8 = 2;
+
+pub const TMCC: u8 = 3;
+
+pub const AC1: u8 = 4;
+
+pub const AC2: u8 = 5;
+
+pub const EDGE_CP: u8 = 6;
+
 // Kind of an AC carrier.
 pub enum AcKind {
     // In all segments.
@@ -50,15 +65,15 @@ impl CarrierRole {
         ensures { λ r. ⌜ r ≡ roleByte self ⌝ }
     {
         match self {
-            CarrierRole::Data => 0,
-            CarrierRole::Sp => 1,
-            CarrierRole::Cp => 2,
-            CarrierRole::Tmcc => 3,
+            CarrierRole::Data => DATA,
+            CarrierRole::Sp => SP,
+            CarrierRole::Cp => CP,
+            CarrierRole::Tmcc => TMCC,
             CarrierRole::Ac(kind) => match kind {
-                AcKind::Ac1 => 4,
-                AcKind::Ac2 => 5,
+                AcKind::Ac1 => AC1,
+                AcKind::Ac2 => AC2,
             },
-            CarrierRole::EdgeCp => 6,
+            CarrierRole::EdgeCp => EDGE_CP,
         }
     }
 }
@@ -85,20 +100,8 @@ fn pilot_byte(kind: SegmentKind, phase: u8, p: SegmentPlace) -> u8
     ensures { λ r. ⌜ r ≡ pilotByte kind phase (p .0) ⌝ }
 {
     match kind {
-        SegmentKind::Coherent => {
-            if is_sp(p, phase) {
-                CarrierRole::Sp.byte()
-            } else {
-                CarrierRole::Data.byte()
-            }
-        }
-        SegmentKind::Differential => {
-            if p.0 == 0 {
-                CarrierRole::Cp.byte()
-            } else {
-                CarrierRole::Data.byte()
-            }
-        }
+        SegmentKind::Coherent => { if is_sp(p, phase) { SP } else { DATA } }
+        SegmentKind::Differential => { if p.0 == 0 { CP } else { DATA } }
     }
 }
 
@@ -136,21 +139,9 @@ pub fn segment_roles(mode: Mode, seg: Segment, kind: SegmentKind, phase: u8, out
 {
     let row = seg.0;
     write_pilots(kind, phase, out);
-    mark(
-        tables::tmcc_positions(mode, kind, row),
-        CarrierRole::Tmcc.byte(),
-        out,
-    );
-    mark(
-        tables::ac1_positions(mode, kind, row),
-        CarrierRole::Ac(AcKind::Ac1).byte(),
-        out,
-    );
-    mark(
-        tables::ac2_positions(mode, kind, row),
-        CarrierRole::Ac(AcKind::Ac2).byte(),
-        out,
-    );
+    mark(tables::tmcc_positions(mode, kind, row), TMCC, out);
+    mark(tables::ac1_positions(mode, kind, row), AC1, out);
+    mark(tables::ac2_positions(mode, kind, row), AC2, out);
 }
 
 // A layout that was accepted: its mode, and the kind of each segment, by segment number.
@@ -159,9 +150,9 @@ pub struct FrameLayout {
     pub kinds: [u8; 13],
 }
 
-// Kinds from outside: whether they are thirteen of 0 or 1, and then these, else zeros.
+// Kinds from outside: their refusal, 2 unless they are thirteen of 0 or 1, or 0; and these, or zeros.
 struct KindsRead {
-    good: bool,
+    code: u8,
     kinds: [u8; 13],
 }
 
@@ -172,11 +163,11 @@ pub struct NewLayout {
 }
 
 fn read_kinds(kinds: &[u8]) -> KindsRead
-    ensures { λ r. ⌜ AcceptedKinds (now (kinds .entry)) (r .good) (r .kinds) ⌝ }
+    ensures { λ r. ⌜ AcceptedKinds (now (kinds .entry)) (r .code) (r .kinds) ⌝ }
 {
     if kinds.len() != 13 {
         return KindsRead {
-            good: false,
+            code: 2,
             kinds: [0; 13],
         };
     }
@@ -186,7 +177,7 @@ fn read_kinds(kinds: &[u8]) -> KindsRead
         let kind = kinds[i];
         if 1 < kind {
             return KindsRead {
-                good: false,
+                code: 2,
                 kinds: [0; 13],
             };
         }
@@ -194,7 +185,7 @@ fn read_kinds(kinds: &[u8]) -> KindsRead
         i += 1;
     }
     KindsRead {
-        good: true,
+        code: 0,
         kinds: read,
     }
 }
@@ -215,20 +206,13 @@ impl FrameLayout {
             };
         };
         let read = read_kinds(kinds);
-        let accepted = read.kinds;
-        let layout = FrameLayout {
-            mode: m,
-            kinds: accepted,
-        };
-        if !read.good {
-            return NewLayout {
-                code: 2,
-                layout: layout,
-            };
-        }
+        let held = read.kinds;
         NewLayout {
-            code: 0,
-            layout: layout,
+            code: read.code,
+            layout: FrameLayout {
+                mode: m,
+                kinds: held,
+            },
         }
     }
 
@@ -258,7 +242,7 @@ impl FrameLayout {
             place += 1;
         }
         let edge = ofdm::first_carrier(mode, BandPlace(13)).0;
-        out[edge] = CarrierRole::EdgeCp.byte();
+        out[edge] = EDGE_CP;
     }
 }
 

@@ -6,7 +6,7 @@ use mathlib.Core.Path.{_≡_, sym}
 use lib.Ieee.{Float, binary64, div, lt, le}
 use Rattle.ieee.specs.Constants.{plusZero}
 use Rattle.complex.specs.Complex.{pair, norm64}
-use Rattle.guess.specs.declared.Window.{Window}
+use Rattle.correlation.specs.declared.Window.{Window}
 use Rattle.guess.specs.declared.Best.{Best}
 use Rattle.guess.specs.declared.GuardSearch.{GuardSearch}
 use Rattle.guess.specs.declared.GuardSearch.the-variants.{Found}

@@ -1,28 +1,26 @@
 -- The search, one step at a time: over a list that a loop walks, and at an offset, from the sums in the scratch.
 -- Assumes nothing.
 use Prim.Native.Nat.{ℕ, _+_, _-_, _*_, _/_, _≤_, _<_}
-use mathlib.Core.Bool.{Bool, true, false, cond}
-use mathlib.Core.List.{List, [], _∷_, map}
+use mathlib.Core.Bool.{true, false}
+use mathlib.Core.List.{List, []}
 use mathlib.Core.Path.{_≡_, refl, sym, ap, _∙_}
-use native.Mathlib.Omega.{arith}
 use native.Mathlib.Numerals.{add-one}
-use borrow.Author.Tests.{le-leb, lt-leb, lt-ltb, le-ltb, leb-true}
-use lib.Dec.{leb}
+use borrow.Author.Tests.{le-leb, lt-leb, lt-ltb, le-ltb}
 use lib.ListN.{length, getD, take}
 use lib.Seq.{take-suc, take-all}
-use lib.Ieee.{Float, nan, binary64}
-use Rattle.ieee.specs.Constants.{plusZero}
-use Rattle.ieee.specs.Sums.{total}
-use Rattle.lists.specs.Lists.{upTo, range, select}
-use Rattle.guess.specs.declared.Window.{Window}
+use lib.Ieee.{Float}
+use Rattle.lists.specs.Lists.{range}
+use Rattle.samples_needed.specs.Samples.{fftOf, guardOf, symbolOf}
+use Rattle.correlation.specs.declared.Window.{Window}
+use Rattle.correlation.specs.Correlation.{pairsIn, lagsIn, realPrefixes, imaginaryPrefixes, energyPrefixes, starts}
+use Rattle.correlation.specs.Inner.{reals, imaginaries, energies, Holds, Windowed}
+use Rattle.correlation.specs.Held.{sum-by}
 use Rattle.guess.specs.declared.Best.{Best}
 use Rattle.guess.specs.declared.GuardSearch.{GuardSearch}
 use Rattle.guess.specs.declared.GuardSearch.the-variants.{Found, Nothing}
-use Rattle.guess.specs.Samples.{fftOf, guardOf, symbolOf}
-use Rattle.guess.specs.Guess.{pairsIn, lagsIn, realPrefixes, imaginaryPrefixes, energyPrefixes, starts, windowSum}
 use Rattle.guess.specs.Guess.{correlationAt, energyAt, guessAt, offered, scan, triedGuard, triedMode, guessed}
 use Rattle.guess.specs.Facts.{scan-last}
-use Rattle.guess.specs.Inner.{reals, imaginaries, energies, entry, Holds, gap, gaps, Windowed, searchOf, guessOf, betterOf, Tried}
+use Rattle.guess.specs.Inner.{searchOf, guessOf, betterOf, Tried}
 
 -- ---- one entry more
 module _ (f : GuardSearch → ℕ → GuardSearch) where
@@ -39,25 +37,6 @@ module _ (f : GuardSearch → ℕ → GuardSearch) where
       rw (add-one, take-suc xs i 0 h) (g ∙ (ap (λ (z : GuardSearch). f z (getD xs i 0)) e ∙ sym (scan-last f b (take i xs) (getD xs i 0))))
 
 -- ---- an offset
-map-select : (f g : ℕ → Float) (t : ℕ → Bool) (xs : List ℕ) → ((a : ℕ) → t a ≡ true → f a ≡ g a) → map f (select t xs) ≡ map g (select t xs)
-map-select f g t [] h = refl
-map-select f g t (x ∷ xs) h = by (t x) (h x) (map-select f g t xs h)
-  where
-    by : (b : Bool) → (b ≡ true → f x ≡ g x) → map f (select t xs) ≡ map g (select t xs)
-        → map f (cond b (x ∷ select t xs) (select t xs)) ≡ map g (cond b (x ∷ select t xs) (select t xs))
-    by true q r = rw (q refl, r)
-    by false q r = r
-
--- sums that hold a list give its window sums: each start's guard ends within it
-sum-by : (slot : ℕ → ℕ) (sums ps : List Float) (p ng len d : ℕ) → ((i : ℕ) → i ≤ len → entry slot sums i ≡ getD ps i nan)
-    → gaps slot sums ng (plusZero binary64) (starts p ng len d) ≡ windowSum ps ng (starts p ng len d)
-unfolding starts windowSum
-sum-by slot sums ps p ng len d h =
-    ap (total binary64 (plusZero binary64))
-    (map-select (gap (entry slot sums) ng) (gap (λ i. getD ps i nan) ng) (λ a. leb (a + ng) len) (upTo (λ s. d + s * p) ((len - ng) / p)) (λ a t.
-    let l : a + ng ≤ len = leb-true (a + ng) len t in
-    rw (h (a + ng) l, h a (omega arith))))
-
 module _ (xs sums : List Float) (mode guard d : ℕ) (w : Window) (h : Holds (fftOf mode) xs sums)
     (g : Windowed sums (guardOf mode guard) (starts (symbolOf mode guard) (guardOf mode guard) (lagsIn (fftOf mode) xs) d) w) where
   energy-is : w .energy ≡ energyAt xs mode guard d

@@ -24,8 +24,9 @@ use Rattle.complex.specs.Bounds.{gain-cases, partLevel, stepLevel, energyLevel,
 use Rattle.complex.specs.Bounds.{part-gain, step-gain, energy-gain, metric-gain, correlation-roomy}
 use Rattle.spectra.specs.Spectra.{pairAt}
 use Rattle.spectra.specs.Changes.{Changed, Wholes, Allowed}
-use Rattle.guess.specs.Samples.{isMode, fftOf, guardOf, symbolOf}
-use Rattle.guess.specs.Guess.{pairsIn, lagsIn, lagProduct, lagEnergy, correlationAt, energyAt, guessAt}
+use Rattle.samples_needed.specs.Samples.{isMode, fftOf, guardOf, symbolOf}
+use Rattle.correlation.specs.Correlation.{pairsIn, lagsIn, lagProduct, lagEnergy}
+use Rattle.guess.specs.Guess.{correlationAt, energyAt, guessAt}
 use Rattle.guess.specs.Guess.{beats, offered, scan, triedGuard, triedMode, guessed}
 use Rattle.guess.specs.Louder.{twiceGained, louderGuess, louder}
 use Rattle.guess.specs.Windows.{correlation-same, energy-same, correlation-louder, energy-louder, correlation-fits}

@@ -15,16 +15,16 @@ use lib.Ieee.{Float, Format, nan, fin, binary32, binary64, ofBits, round, neg, s
 use lib.Ieee.Exact.{HasValue}
 use lib.Ieee.Back.{round-whole}
 use Rattle.ieee.specs.Constants.{plusZero, half}
-use Rattle.ieee.specs.Root.{rootOf}
+use Rattle.root.specs.Root.{rootOf}
 use Rattle.ieee.specs.Values.{neg-value, shape, add-value}
 use Rattle.ieee.specs.Sums.{total, prefixes}
 use Rattle.lists.specs.Lists.{upTo, range, select}
 use Rattle.lists.specs.Select.{length-upTo, getD-upTo}
 use Rattle.complex.specs.Complex.{Pair, pair, product, conjugate, squaredSize, norm64}
 use Rattle.spectra.specs.Spectra.{pairAt}
-use Rattle.guess.specs.Samples.{fftOf, guardOf, symbolOf}
-use Rattle.guess.specs.Guess.{pairsIn, lagsIn, lagProduct, lagEnergy, realPrefixes, imaginaryPrefixes, energyPrefixes}
-use Rattle.guess.specs.Guess.{starts, windowSum, correlationAt, energyAt, guessAt, offered, scan, triedGuard, triedMode, guessed}
+use Rattle.samples_needed.specs.Samples.{fftOf, guardOf, symbolOf}
+use Rattle.correlation.specs.Correlation.{pairsIn, lagsIn, lagProduct, lagEnergy, realPrefixes, imaginaryPrefixes, energyPrefixes, starts, windowSum}
+use Rattle.guess.specs.Guess.{correlationAt, energyAt, guessAt, offered, scan, triedGuard, triedMode, guessed}
 use Rattle.guess.specs.Guess.{guessCode, guessAnswer}
 use Rattle.guess.specs.Facts.{first-taken, only-greater, scan-last}
 use Rattle.guess.specs.declared.ModeGuess.{ModeGuess}

@@ -1,6 +1,6 @@
 -- What document 01 says of the guess as facts: where something is found its energy is not at or below zero; nothing is found only if every offset
 -- tried has energy at or below zero, or none is tried; the first offset with energy is taken whatever its metric, even a NaN; afterwards
--- only a greater metric replaces. Without a mode, or without a guard, no samples are needed. An answer's number is the operation's code.
+-- only a greater metric replaces. An answer's number is the operation's code.
 -- Assumes nothing.
 use Prim.Native.Nat.{ℕ, zero, suc, _+_, _*_, _≤_, _<_}
 use mathlib.Core.Bool.{Bool, true, false, _||_, cond}
@@ -17,22 +17,13 @@ use Rattle.ieee.specs.Constants.{plusZero}
 use Rattle.lists.specs.Lists.{range}
 use Rattle.lists.specs.Tests.{memb}
 use Rattle.lists.specs.Select.{length-upTo, getD-upTo}
-use Rattle.guess.specs.Samples.{fftOf, guardOf, symbolOf, greatest, samplesNeeded, samplesCode, samplesAnswer, samplesNumber}
-use Rattle.guess.specs.Guess.{pairsIn, lagsIn, energyAt, guessAt, beats, offered, scan, triedGuard, triedMode, guessed}
+use Rattle.samples_needed.specs.Samples.{fftOf, guardOf, symbolOf}
+use Rattle.correlation.specs.Correlation.{pairsIn, lagsIn}
+use Rattle.guess.specs.Guess.{energyAt, guessAt, beats, offered, scan, triedGuard, triedMode, guessed}
 use Rattle.guess.specs.Guess.{guessCode, guessAnswer, searchNumber}
-use Rattle.guess.specs.declared.SamplesNeeded.the-variants as needed
 use Rattle.guess.specs.declared.ModeGuess.{ModeGuess}
 use Rattle.guess.specs.declared.GuardSearch.{GuardSearch}
 use Rattle.guess.specs.declared.GuardSearch.the-variants.{Found, Nothing, Refused}
-
-pub no-modes : (guards : List ℕ) (symbols : ℕ) → samplesNeeded [] guards symbols ≡ 0
-unfolding samplesNeeded greatest
-no-modes guards symbols = refl
-
-pub no-guards : (modes : List ℕ) (symbols : ℕ) → samplesNeeded modes [] symbols ≡ 0
-unfolding samplesNeeded greatest
-no-guards [] symbols = refl
-no-guards (mode ∷ modes) symbols = no-guards modes symbols
 
 pub first-taken : (xs : List Float) (mode guard d : ℕ) → le (energyAt xs mode guard d) (plusZero binary64) ≡ false
     → offered xs mode guard Nothing d ≡ Found (guessAt xs mode guard d)
@@ -110,10 +101,6 @@ pub found-is : (xs : List Float) (modes guards : List ℕ) (g : ModeGuess) → g
 found-is xs modes guards g e = subst (Good xs) e (search-keeps (Good xs) xs (good-offered xs) modes guards tt)
 
 -- ---- an answer's number is the number that refuses the call, and 0 where nothing does
-pub samples-number : (modes guards : List ℕ) (symbols : ℕ) → samplesNumber (samplesAnswer modes guards symbols) ≡ samplesCode modes guards symbols
-unfolding samplesAnswer
-samples-number modes guards symbols = numbered samplesNumber needed.Refused (samplesCode modes guards symbols) _ refl (λ k. refl)
-
 -- a search never ends refused
 abbrev Unrefused : GuardSearch → Type 0
 Unrefused b = searchNumber b ≡ 0

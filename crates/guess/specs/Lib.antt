@@ -1,4 +1,3 @@
-pub mod Samples
 pub mod Guess
 pub mod Inner
 pub mod Windows

@@ -13,9 +13,9 @@ use Rattle.ofdm.specs.declared.BinLookup.{BinLookup}
 use Rattle.ofdm.specs.Band.{binLookup, binNumber, binGiven}
 use Rattle.carrier_lists.specs.declared.ContinualList.{ContinualList}
 use Rattle.carrier_lists.specs.Operations.{ContinualListed, continualNumber, countGiven}
-use Rattle.guess.specs.declared.SamplesNeeded.{SamplesNeeded}
+use Rattle.samples_needed.specs.declared.SamplesNeeded.{SamplesNeeded}
 use Rattle.guess.specs.declared.GuardSearch.{GuardSearch}
-use Rattle.guess.specs.Samples.{samplesNumber, samplesGiven}
+use Rattle.samples_needed.specs.Samples.{samplesNumber, samplesGiven}
 use Rattle.guess.specs.Guess.{searchNumber, foundGiven, guessGiven}
 use Rattle.tmcc.specs.declared.SoftTmcc.{SoftTmcc}
 use Rattle.tmcc.specs.Tmcc.{softNumber, softGiven}

@@ -12,13 +12,14 @@ use lib.Ieee.{Float}
 use Rattle.params.specs.declared.ModeNumber.{ModeNumber}
 use Rattle.ofdm.specs.Band.{binLookup, binNumber, binGiven}
 use Rattle.carrier_lists.specs.Operations.{continualListAnswer, continualListLeaves, continualNumber, countGiven}
-use Rattle.guess.specs.declared.SamplesNeeded.{SamplesNeeded}
+use Rattle.samples_needed.specs.declared.SamplesNeeded.{SamplesNeeded}
 use Rattle.guess.specs.declared.GuardSearch.{GuardSearch}
-use Rattle.guess.specs.Samples.{samplesNumber, samplesGiven}
+use Rattle.samples_needed.specs.Samples.{samplesNumber, samplesGiven}
 use Rattle.guess.specs.Guess.{searchNumber, foundGiven, guessGiven}
 use Rattle.tmcc.specs.declared.SoftTmcc.{SoftTmcc}
 use Rattle.tmcc.specs.Tmcc.{softNumber, softGiven}
-use Rattle.pilot_phase.specs.PilotPhase.{phaseAnswer, phaseNumber, pilotsGiven, phaseGiven, shareGiven, besideGiven, countsAnswer, leadOf}
+use Rattle.winner.specs.Winner.{leadOf}
+use Rattle.pilot_phase.specs.PilotPhase.{phaseAnswer, phaseNumber, pilotsGiven, phaseGiven, shareGiven, besideGiven, countsAnswer}
 use Rattle.segment_kinds.specs.SegmentKinds.{kindsCode, kindsAnswer, scoresAnswer, kindsLeaves}
 use Rattle.shift.specs.Shift.{shiftAnswer, shiftLeaves, shiftNumber, shiftGiven}
 

@@ -4,7 +4,7 @@
 // the end refuse nothing and return their value.
 ghost use mathlib.Core.Path.{_≡_};
 ghost use Rattle.params.specs.Params.{modeFrom};
-ghost use Rattle.ieee.specs.Root.{rootOf};
+ghost use Rattle.root.specs.Root.{rootOf};
 ghost use Rattle.ieee.specs.Narrow.{narrowOf};
 ghost use Rattle.complex.specs.Complex.{pair, norm32, norm64};
 ghost use Rattle.prbs.specs.SignMap.{SignMap};
@@ -13,19 +13,19 @@ ghost use Rattle.carrier_lists.specs.Operations.{DataList};
 ghost use Rattle.chanest.specs.Grid.{GridEstimated};
 ghost use Rattle.host.specs.Host.{CarrierBin, ContinualCount, ShiftLent, KindsLent, SamplesLent, GuessLent, SoftLent, PhaseLent};
 ghost use lib.ListN.{length};
-ghost use Rattle.guess.specs.Samples.{samplesAnswer};
+ghost use Rattle.samples_needed.specs.Samples.{samplesAnswer};
 ghost use Rattle.guess.specs.Guess.{guessAnswer, scratchLeaves};
 ghost use Rattle.tmcc.specs.Tmcc.{softAnswer};
 use carrier_lists::ContinualList;
-use chanest::Current;
 use complex::C32;
 use complex::C64;
 use guess::GuardSearch;
-use guess::SamplesNeeded;
 use ofdm::BandCarrier;
 use ofdm::BinLookup;
 use pilot_phase::PhaseAnswer;
 use pilot_phase::PilotPhase;
+use pilot_times::Current;
+use samples_needed::SamplesNeeded;
 use shift::ShiftAnswer;
 use tmcc::SoftTmcc;
 
@@ -98,7 +98,7 @@ pub extern "C" fn sillurwy_samples_needed(
     ensures { λ r. ⌜ SamplesLent (samplesAnswer (now (modes .entry)) (now (guards .entry)) symbols)
         (now (samples .entry)) r (now (samples .exit)) ⌝ }
 {
-    match guess::samples_needed(modes, guards, symbols) {
+    match samples_needed::samples_needed(modes, guards, symbols) {
         SamplesNeeded::Samples(n) => {
             *samples = n;
             0
@@ -275,7 +275,7 @@ pub extern "C" fn sillurwy_estimate_grid(
 pub extern "C" fn sillurwy_root(x: f64) -> f64
     ensures { λ r. ⌜ r ≡ rootOf x ⌝ }
 {
-    ieee::root(x)
+    root::root(x)
 }
 
 // The f32 nearest to x.

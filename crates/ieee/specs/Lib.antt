@@ -1,5 +1,4 @@
 pub mod Constants
-pub mod Root
 pub mod Narrow
 pub mod Inner
 pub mod Numbers
@@ -12,12 +11,7 @@ pub mod Levels
 pub mod Gain
 pub mod Sums
 pub mod Patterns
-pub mod WholeRoot
-pub mod RootUnits
-pub mod RootNear
-pub mod RootBest
-pub mod RootShift
-pub mod Nearest
-pub mod RootGain
+pub mod NarrowGain
+pub mod Narrowing
 pub mod Worked
 pub mod Differences

@@ -3,14 +3,13 @@
 -- Assumes nothing.
 use mathlib.Core.Path.{_≡_, refl, sym, ap, _∙_}
 use mathlib.Core.Bool.{Bool, true, false, not, _&&_, cond, true≢false}
-use Prim.Native.Nat.{ℕ, zero, suc, _+_, _-_, _*_, _/_, _^_, _<_, _≤_}
+use Prim.Native.Nat.{ℕ, zero, suc, _+_, _-_, _*_, _^_, _<_, _≤_}
 use native.Mathlib.Nat.{zero-mul, mul-comm, add-comm}
 use native.Mathlib.Omega.{arith}
 use lib.IntN.{ℤ}
 use lib.Dec.{T, ltb, eqb, ltb→lt, nltb→le, leb·suc-zero}
-use lib.Ieee.{Float, nan, inf, fin, Format, binary32, binary64, prec, emax, low, up, down, unlike, odd, units, round, neg, sum, add, mul, div}
+use lib.Ieee.{Float, nan, inf, fin, Format, binary32, prec, emax, low, up, down, unlike, odd, units, round, neg, sum, add, mul, div}
 use lib.Ieee.Fits.{round-is}
-use Rattle.ieee.specs.Root.{rootUnits, rootKept, rootDrop, rootOf}
 use Rattle.ieee.specs.Narrow.{narrowOf}
 
 -- ---- the order of the operands
@@ -158,7 +157,7 @@ negative nan = false
 negative (inf s) = s
 negative (fin s m e) = s
 
-units-sign : (f : Format) (s : Bool) (q k : ℕ) → negative (units f s q k) ≡ s
+pub units-sign : (f : Format) (s : Bool) (q k : ℕ) → negative (units f s q k) ≡ s
 unfolding units odd
 units-sign f s q k = go q (ltb (q * 2 ^ k) (2 ^ (low f + suc (emax f))))
   where
@@ -228,21 +227,7 @@ quotient-sign f (fin s m e) (fin t n d) p q = rw (p, q) (by (eqb n 0) (eqb m 0))
     by true false = refl
     by false b = round-sign f false _ _
 
--- ---- of a root and of a narrowed value
-root-units-sign : (n : ℕ) → negative (rootUnits n) ≡ false
-unfolding rootUnits
-root-units-sign n = units-sign binary64 false (rootKept n) (rootDrop n)
-
--- the only root with a minus sign is that of -0.0
-pub root-sign : (x : Float) → negative x ≡ false → negative (rootOf x) ≡ false
-unfolding rootOf
-root-sign nan p = refl
-root-sign (inf true) p = refl
-root-sign (inf false) p = refl
-root-sign (fin s zero e) p = p
-root-sign (fin true (suc m) e) p = refl
-root-sign (fin false (suc m) e) p = root-units-sign (suc m * up e * 2 ^ 1074 / down e * 2 ^ 1074)
-
+-- ---- of a narrowed value
 pub narrow-sign : (x : Float) → negative (narrowOf x) ≡ negative x
 unfolding narrowOf
 narrow-sign nan = refl

@@ -1,61 +1,94 @@
 -- What the tests on the way to a return make of the definition of `detect_sp_phase`.
 -- Assumes nothing.
 use Prim.Native.Nat.{ℕ, _*_, _-_, _/_, _%_, _≤_, _<_}
-use mathlib.Core.Bool.{Bool, true, false, cond}
+use mathlib.Core.Bool.{Bool, true, false, _&&_}
 use mathlib.Core.List.{List}
 use mathlib.Core.Path.{_≡_, refl, sym, ap, _∙_}
+use native.Mathlib.Decide.{ℕ-discrete}
 use native.Mathlib.Omega.{arith}
-use borrow.Author.Tests.{eq-eqb, ne-eqb, le-leb, lt-leb, not-false, not-true}
-use lib.Dec.{T, eqb}
-use lib.IntN.{pos}
+use borrow.Author.Tests.{eq-eqb, ne-eqb, eqb-true, leb-true, le-leb, lt-leb, not-false, not-true}
+use lib.Dec.{eqb, leb, lit<}
 use lib.ListN.{length, getD}
-use lib.Ieee.{Float, binary32, div, ofInt, inFloat}
-use Rattle.ieee.specs.Differences.{held-exactly}
-use Rattle.lists.specs.Refusals.{unless}
+use lib.Ieee.{Float}
+use Rattle.lists.specs.Refusals.{unless, passed}
+use Rattle.lists.specs.Tests.{both-left, both-right}
 use Rattle.params.specs.declared.Mode.{Mode}
 use Rattle.params.specs.declared.ModeNumber.{ModeNumber}
 use Rattle.params.specs.declared.ModeNumber.the-variants.{Known, Unknown}
 use Rattle.params.specs.Params.{totalCarriers}
-use Rattle.spectra.specs.Spectra.{areSpectra}
-use Rattle.prbs.specs.Signs.{bandSigns}
+use Rattle.spectra.specs.Spectra.{spectraIn, areSpectra}
 use Rattle.frame.specs.Operations.{areKinds, layoutCode}
 use Rattle.frame.specs.Inner.{AcceptedLayout}
 use Rattle.frame.specs.Answers.{kinds-good}
+use Rattle.ballots.specs.Ballots.{pilots, ballots}
+use Rattle.ballots.specs.Facts.{ballots-length}
+use Rattle.ballots.specs.Inner.{somePilots}
+use Rattle.winner.specs.Winner.{nextTo, shareOf, leadOf}
+use Rattle.winner.specs.Inner.{Won}
+use Rattle.winner.specs.Facts.{no-lead, next-below}
 use Rattle.pilot_phase.specs.declared.PilotPhase.the-variants.{NoScatteredPilots, Phase}
 use Rattle.pilot_phase.specs.declared.PhaseAnswer.{PhaseAnswer}
 use Rattle.pilot_phase.specs.declared.PhaseAnswer.the-variants.{Detected, Refused}
 use Rattle.pilot_phase.specs.declared.PilotAnswer.{PilotAnswer}
-use Rattle.pilot_phase.specs.Ballots.{pilots, ballots}
-use Rattle.pilot_phase.specs.PilotPhase.{votes, countOf, countsOf, nextTo, shareOf, phaseOf, leadOf}
+use Rattle.pilot_phase.specs.PilotPhase.{votes, countOf, countsOf, phaseOf}
 use Rattle.pilot_phase.specs.PilotPhase.{phaseCode, detected, phaseAnswer, noCounts, countsAnswer, phaseNumber, PhaseDetected}
-use Rattle.pilot_phase.specs.Inner.{Votable, Won, somePilots, Nothing}
-use Rattle.pilot_phase.specs.Facts.{phase-number, ballots-length, counts-at, no-lead, next-below}
+use Rattle.pilot_phase.specs.Inner.{Whole, Counted, lengthCode, Nothing, Told, acceptedCounts, Accepted}
+use Rattle.pilot_phase.specs.Facts.{phase-number, counts-at}
 use Rattle.pilot_phase.proofs.Counting.{votes-few}
 
--- ---- few spectra
-module _ (m : Mode) (xs : List Float) {k : ℕ} (sizes : k ≡ totalCarriers m) (f : length xs / (2 * k) ≤ 1024) where
-  pub votable : {signs : List ℕ} → length xs % (2 * k) ≡ 0 → signs ≡ bandSigns m → Votable m (length xs) signs
-  votable w s = record { whole = rw sizes at w; few = rw sizes at f; signed = s }
-
-  -- so few votes are a whole f32
-  pub whole-votes : (kinds : List ℕ) {counts : List ℕ} {won : ℕ} → counts ≡ countsOf (votes (ballots m kinds xs)) → Won counts won
-      → T (inFloat binary32 (pos (getD counts won 0)))
-  whole-votes kinds {counts} {won} c v =
-      let vs = votes (ballots m kinds xs) in
-      let n : getD counts won 0 ≡ countOf vs won = rw c (counts-at vs won (v .phase)) in
-      held-exactly (pos (getD counts won 0)) (omega (arith, n, votes-few m kinds xs won, rw sizes at f))
-
--- and so few spectra
-pub whole-total : {n all : ℕ} → n ≤ 1024 → all ≡ cond (eqb n 0) 1 n → T (inFloat binary32 (pos all))
-whole-total {n} {all} f b = held-exactly (pos all) (omega (arith, b, by (eqb n 0)))
-  where
-    by : (t : Bool) → cond t 1 n ≤ 1024
-    by true = omega arith
-    by false = f
-
+-- ---- what counts tell
 -- no other phase has more votes
 pub lead-fits : {counts : List ℕ} {won next : ℕ} → Won counts won → next ≡ nextTo counts won → next ≤ getD counts won 0
 lead-fits {counts} v e = rw (e, v .won) (next-below counts)
+
+pub told : {counts : List ℕ} {n won next : ℕ} {share : Float} → Won counts won → share ≡ shareOf (getD counts won 0) n → next ≡ nextTo counts won
+    → Told counts n (record { answer = Detected (Phase won share); counts = counts; lead = getD counts won 0 - next })
+unfolding leadOf
+told v s e = record { answer = rw (s, v .won); same = refl; lead = rw (e, v .won) }
+
+-- ---- an accepted call
+module _ (m : Mode) (kinds : List ℕ) (xs : List Float) where
+  -- the counts of so few spectra
+  pub few-counted : {counts : List ℕ} {k : ℕ} → Whole m (length xs) → k ≡ totalCarriers m → counts ≡ countsOf (votes (ballots m kinds xs))
+      → Counted counts (length xs / (2 * k))
+  few-counted {counts} {k} w e c =
+      let vs = votes (ballots m kinds xs) in
+      let total : length xs / (2 * k) ≤ 1024 = rw e (w .few) in
+      record {
+        each = λ p h.
+            let n : getD counts p 0 ≡ countOf vs p = rw c (counts-at vs p h) in
+            record { votes = omega (arith, n, votes-few m kinds xs p, w .few); spectra = total };
+      }
+
+  pub no-pilots : {r : PilotAnswer} → somePilots m kinds ≡ false → Nothing (Detected NoScatteredPilots) r → Accepted m kinds xs r
+  unfolding detected acceptedCounts
+  no-pilots p n =
+      let none : eqb (length (pilots m kinds 0)) 0 ≡ true = not-false _ p in
+      record { answer = n .same ∙ rw none; counts = n .counts ∙ rw none; lead = n .lead ∙ sym (rw none no-lead) }
+
+  pub some-pilots : {r : PilotAnswer} {counts : List ℕ} {k : ℕ} → somePilots m kinds ≡ true → k ≡ totalCarriers m
+      → counts ≡ countsOf (votes (ballots m kinds xs)) → Told counts (length xs / (2 * k)) r → Accepted m kinds xs r
+  unfolding detected acceptedCounts phaseOf
+  some-pilots {r} {counts} {k} p e c t =
+      let some : eqb (length (pilots m kinds 0)) 0 ≡ false = not-true _ p in
+      let n : length xs / (2 * k) ≡ length (ballots m kinds xs) = rw e (sym (ballots-length m kinds xs)) in
+      record { answer = t .answer ∙ rw (some, c, n); counts = t .same ∙ rw some c; lead = t .lead ∙ rw (some, c) }
+
+-- ---- the number that refuses a call, by the tests; code is the layout's, and k the carriers of a spectrum
+module _ (code : ℕ) (m : Mode) (n : ℕ) where
+  pub layout-first : (code ≡ 0 → ⊥) → code ≡ lengthCode code m n
+  layout-first h = rw (ne-eqb code 0 h)
+
+  module _ (z : code ≡ 0) {k : ℕ} (sizes : k ≡ totalCarriers m) where
+    pub bad-length : (n % (2 * k) ≡ 0 → ⊥) → 5 ≡ lengthCode code m n
+    bad-length h = rw (z, ← sizes, ne-eqb (n % (2 * k)) 0 h)
+
+    module _ (w : n % (2 * k) ≡ 0) where
+      pub too-many : 1024 < n / (2 * k) → 5 ≡ lengthCode code m n
+      too-many h = rw (z, ← sizes, eq-eqb (n % (2 * k)) 0 w, lt-leb (n / (2 * k)) 1024 h)
+
+      pub none-refused : n / (2 * k) ≤ 1024 → 0 ≡ lengthCode code m n
+      none-refused h = rw (z, ← sizes, eq-eqb (n % (2 * k)) 0 w, le-leb (n / (2 * k)) 1024 h)
 
 -- ---- what an answer, counts and a lead make
 made : (number : ModeNumber) (kinds : List ℕ) (xs : List Float) {r : PilotAnswer} → r .answer ≡ phaseAnswer number kinds xs
@@ -67,68 +100,58 @@ nothing-detected : (number : ModeNumber) (kinds : List ℕ) (xs : List Float) {a
     → answer ≡ phaseAnswer number kinds xs → countsAnswer number kinds xs ≡ noCounts → Nothing answer r → PhaseDetected number kinds xs r
 nothing-detected number kinds xs e c a = made number kinds xs (a .same ∙ e) (a .counts ∙ sym c) (a .lead ∙ sym (ap leadOf c ∙ no-lead))
 
-refused : (number : ModeNumber) (kinds : List ℕ) (xs : List Float) {n : ℕ} {r : PilotAnswer} → n ≡ phaseCode number kinds (length xs)
+refused-by : (number : ModeNumber) (kinds : List ℕ) (xs : List Float) {n : ℕ} {r : PilotAnswer} → n ≡ phaseCode number kinds (length xs)
     → (n ≡ 0 → ⊥) → Nothing (Refused n) r → PhaseDetected number kinds xs r
 unfolding phaseCode countsAnswer phaseAnswer
-refused Unknown kinds xs e h a = nothing-detected Unknown kinds xs (ap Refused e) refl a
-refused (Known m) kinds xs {n} e h a =
+refused-by Unknown kinds xs e h a = nothing-detected Unknown kinds xs (ap Refused e) refl a
+refused-by (Known m) kinds xs {n} e h a =
     let no : eqb (phaseCode (Known m) kinds (length xs)) 0 ≡ false = ap (λ (z : ℕ). eqb z 0) (sym e) ∙ ne-eqb n 0 h in
     nothing-detected (Known m) kinds xs (rw no (ap Refused e)) (rw no) a
 
--- a layout's refusal is the operation's
-layout-first : (number : ModeNumber) (kinds : List ℕ) (n : ℕ) → (layoutCode number kinds ≡ 0 → ⊥) → layoutCode number kinds ≡ phaseCode number kinds n
+-- ---- the layout's number and the length's are the operation's
+layout-refused : (number : ModeNumber) (kinds : List ℕ) (n : ℕ) → (layoutCode number kinds ≡ 0 → ⊥) → layoutCode number kinds ≡ phaseCode number kinds n
 unfolding layoutCode phaseCode
-layout-first Unknown kinds n h = refl
-layout-first (Known m) kinds n h = by (areKinds kinds) h
+layout-refused Unknown kinds n h = refl
+layout-refused (Known m) kinds n h = by (areKinds kinds) h
   where
     by : (b : Bool) → (_≡_ {A = ℕ} (unless b 2 0) 0 → ⊥) → unless b 2 0 ≡ unless b 2 (unless (areSpectra (totalCarriers m) n) 5 0)
     by true h = absurd (h refl)
     by false h = refl
 
-module _ {number : ModeNumber} {kinds : List ℕ} (xs : List Float) {code : ℕ} {m : Mode} {read : List ℕ} (a : AcceptedLayout number kinds code m read) where
-  pub bad-layout : {r : PilotAnswer} → (code ≡ 0 → ⊥) → Nothing (Refused code) r → PhaseDetected number kinds xs r
-  bad-layout h n =
-      refused number kinds xs (a .refusal ∙ layout-first number kinds (length xs) (λ e. h (a .refusal ∙ e))) h n
+module _ {number : ModeNumber} {kinds : List ℕ} (xs : List Float) {code : ℕ} {m : Mode} {read : List ℕ} (a : AcceptedLayout number kinds code m read)
+    {n : ℕ} (e : n ≡ lengthCode code m (length xs)) where
+  code-is : n ≡ phaseCode number kinds (length xs)
+  unfolding phaseCode
+  code-is = e ∙ by (ℕ-discrete code 0)
+    where
+      by : Dec (code ≡ 0) → lengthCode code m (length xs) ≡ phaseCode number kinds (length xs)
+      by (yes z) = rw (z, a .known z, kinds-good number kinds code m read a z)
+      by (no h) = rw (ne-eqb code 0 h) (a .refusal ∙ layout-refused number kinds (length xs) (λ z. h (a .refusal ∙ z)))
 
-  -- an accepted layout; k carriers a spectrum
-  module _ (z : code ≡ 0) {k : ℕ} (sizes : k ≡ totalCarriers m) where
-    code-is : phaseCode number kinds (length xs) ≡ unless (areSpectra k (length xs)) 5 0
-    unfolding phaseCode
-    code-is = rw (a .known z, kinds-good number kinds code m read a z, sizes)
+  pub refused : {r : PilotAnswer} → (n ≡ 0 → ⊥) → Nothing (Refused n) r → PhaseDetected number kinds xs r
+  refused h r = refused-by number kinds xs code-is h r
 
-    pub bad-length : {r : PilotAnswer} → (length xs % (2 * k) ≡ 0 → ⊥) → Nothing (Refused 5) r → PhaseDetected number kinds xs r
-    bad-length h n = refused number kinds xs (sym (code-is ∙ rw (ne-eqb (length xs % (2 * k)) 0 h))) (λ e. omega arith) n
+  module _ (z : n ≡ 0) where
+    -- so the layout was accepted, and the length
+    both : (code ≡ 0) × Whole m (length xs)
+    both = by (ℕ-discrete code 0)
+      where
+        by : Dec (code ≡ 0) → (code ≡ 0) × Whole m (length xs)
+        by (yes c) =
+            let whole = eqb (length xs % (2 * totalCarriers m)) 0 in
+            let few = leb (spectraIn (totalCarriers m) (length xs)) 1024 in
+            let p = passed (whole && few) 5 0 (lit< tt) (rw c at (sym e ∙ z)) in
+            (c, record { whole = eqb-true _ _ (both-left whole few (p .first)); few = leb-true _ _ (both-right whole few (p .first)) })
+        by (no h) = absurd (h (sym (rw (ne-eqb code 0 h)) ∙ sym e ∙ z))
 
-    module _ (w : length xs % (2 * k) ≡ 0) where
-      pub too-many : {r : PilotAnswer} → 1024 < length xs / (2 * k) → Nothing (Refused 5) r → PhaseDetected number kinds xs r
-      too-many h n = refused number kinds xs (sym (code-is ∙ rw (eq-eqb (length xs % (2 * k)) 0 w, lt-leb (length xs / (2 * k)) 1024 h))) (λ e. omega arith) n
+    pub whole : Whole m (length xs)
+    whole = both .1
 
-      module _ (f : length xs / (2 * k) ≤ 1024) where
-        zeroed : phaseCode number kinds (length xs) ≡ 0
-        zeroed = code-is ∙ rw (eq-eqb (length xs % (2 * k)) 0 w, le-leb (length xs / (2 * k)) 1024 f)
-
-        accepted : eqb (phaseCode (Known m) kinds (length xs)) 0 ≡ true
-        accepted = eq-eqb _ 0 (rw (a .known z) at zeroed)
-
-        pub no-pilots : {r : PilotAnswer} → somePilots m read ≡ false → Nothing (Detected NoScatteredPilots) r → PhaseDetected number kinds xs r
-        unfolding countsAnswer phaseAnswer detected
-        no-pilots p n =
-            let none : eqb (length (pilots m kinds 0)) 0 ≡ true = not-false _ (rw (a .same z) at p) in
-            rw (a .known z) (nothing-detected (Known m) kinds xs (rw (accepted, none)) (rw (accepted, none)) n)
-
-        pub answered : {counts : List ℕ} {won all next : ℕ} → counts ≡ countsOf (votes (ballots m read xs)) → Won counts won
-            → all ≡ cond (eqb (length xs / (2 * k)) 0) 1 (length xs / (2 * k)) → next ≡ nextTo counts won → somePilots m read ≡ true
-            → PhaseDetected number kinds xs
-            (record {
-              answer = Detected (Phase won (div binary32 (ofInt binary32 (pos (getD counts won 0))) (ofInt binary32 (pos all))));
-              counts = counts;
-              lead = getD counts won 0 - next;
-            })
-        unfolding countsAnswer phaseAnswer detected phaseOf shareOf leadOf
-        answered {counts} {won} {all} c v b e p =
-            let some : eqb (length (pilots m kinds 0)) 0 ≡ false = not-true _ (rw (a .same z) at p) in
-            let d : counts ≡ countsOf (votes (ballots m kinds xs)) = rw (a .same z) at c in
-            let n = length (ballots m kinds xs) in
-            let t : all ≡ cond (eqb n 0) 1 n = rw (ballots-length m kinds xs) (rw sizes at b) in
-            rw (a .known z)
-            (made (Known m) kinds xs (rw (accepted, some, ← d, t, v .won)) (rw (accepted, some) d) (rw (accepted, some, ← d, e, v .won)))
+    pub accepted : {r : PilotAnswer} → Accepted m read xs r → PhaseDetected number kinds xs r
+    unfolding countsAnswer phaseAnswer acceptedCounts
+    accepted r =
+        let c = both .0 in
+        let known = a .known c in
+        let ok : eqb (phaseCode (Known m) kinds (length xs)) 0 ≡ true = eq-eqb _ 0 (rw known at (sym code-is ∙ z)) in
+        let s = rw (a .same c) at r in
+        rw known (made (Known m) kinds xs (s .answer ∙ rw ok) (s .counts ∙ rw ok) (s .lead ∙ rw ok))

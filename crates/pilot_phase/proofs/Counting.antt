@@ -19,11 +19,12 @@ use Rattle.params.specs.declared.Mode.{Mode}
 use Rattle.params.specs.Params.{totalCarriers}
 use Rattle.params.specs.Laws.{sized}
 use Rattle.spectra.specs.Spectra.{pairAt, spectraIn}
-use Rattle.pilot_phase.specs.Ballots.{choiceOf, Ballot, ballotOf, spectrumAt, ballotAt, ballots}
+use Rattle.ballots.specs.Ballots.{choiceOf, Ballot, ballotOf, spectrumAt, ballotAt, ballots}
 use Rattle.pilot_phase.specs.PilotPhase.{voteOf, votesFrom, votes, countOf, countsOf}
 use Rattle.pilot_phase.specs.Facts.{votes-length, counts-length, counts-at, count-append, votes-append}
-use Rattle.pilot_phase.specs.Changed.{ballot-alike}
-use Rattle.pilot_phase.specs.Inner.{Spectrum, Votable}
+use Rattle.ballots.specs.Changed.{ballot-alike}
+use Rattle.ballots.specs.Inner.{Spectrum}
+use Rattle.pilot_phase.specs.Inner.{Votable}
 
 -- ---- a vote more
 pub count-few : (vs : List ℕ) (v : ℕ) → countOf vs v ≤ length vs
@@ -98,7 +99,7 @@ module _ {mode : Mode} {kinds : List ℕ} {xs : List Float} {w : ℕ} where
 
   module _ {signs : List ℕ} (p : Votable mode (length xs) signs) {counts : List ℕ} {from j : ℕ} (c : Counted mode kinds xs w counts from j) where
     whole : length xs ≡ spectraHere mode xs * w
-    whole = rw (c .floats) (omega (arith, div-add-mod' (length xs) (2 * totalCarriers mode), p .whole))
+    whole = rw (c .floats) (omega (arith, div-add-mod' (length xs) (2 * totalCarriers mode), p .spectra .whole))
 
     -- spectrum j ends within the floats
     room : j < spectraHere mode xs → from + w ≤ length xs
@@ -110,9 +111,9 @@ module _ {mode : Mode} {kinds : List ℕ} {xs : List Float} {w : ℕ} where
 
       pub within : (from + w ≤ length xs) × (length xs ≤ 11503616) × (j < 1024) × (0 < w)
       within =
-          let f = mul-le-mul-right w (p .few) in
+          let f = mul-le-mul-right w (p .spectra .few) in
           let floats = c .floats in
-          (room inside, omega (arith, whole, sized mode .band-high), omega (arith, inside, p .few), omega (arith, sized mode .band))
+          (room inside, omega (arith, whole, sized mode .band-high), omega (arith, inside, p .spectra .few), omega (arith, sized mode .band))
 
       abbrev part : List Float
       part = take (from + w - from) (drop from xs)

@@ -1,105 +1,63 @@
 -- The words of the contracts inside this crate.
 -- Definitions only.
-use Prim.Native.Nat.{ℕ, _+_, _*_, _%_, _≤_, _<_}
-use mathlib.Core.Bool.{Bool, true, false, cond, not}
-use mathlib.Core.List.{List, [], _∷_, _++_}
+use Prim.Native.Nat.{ℕ, _*_, _%_, _≤_, _<_}
+use mathlib.Core.Bool.{cond}
+use mathlib.Core.List.{List}
 use mathlib.Core.Path.{_≡_}
 use lib.Dec.{eqb}
 use lib.ListN.{getD, length}
-use lib.Ieee.{Float, binary32, binary64, add, mul}
-use Rattle.lists.specs.Lists.{upTo}
+use lib.Ieee.{Float}
+use Rattle.lists.specs.Refusals.{unless}
 use Rattle.params.specs.declared.Mode.{Mode}
 use Rattle.params.specs.Params.{totalCarriers}
-use Rattle.complex.specs.Complex.{Pair, of32, product, conjugate, plus, scaled, squaredSize, norm32}
-use Rattle.spectra.specs.Spectra.{pairAt, spectraIn}
-use Rattle.prbs.specs.Signs.{bandSigns, pilotValue}
+use Rattle.spectra.specs.Spectra.{spectraIn, areSpectra}
+use Rattle.prbs.specs.Signs.{bandSigns}
+use Rattle.ballots.specs.Ballots.{pilots, ballots}
+use Rattle.winner.specs.Winner.{wonBy, shareOf, leadOf}
+use Rattle.winner.specs.Inner.{Few}
+use Rattle.pilot_phase.specs.declared.PilotPhase.the-variants.{Phase}
 use Rattle.pilot_phase.specs.declared.PhaseAnswer.{PhaseAnswer}
+use Rattle.pilot_phase.specs.declared.PhaseAnswer.the-variants.{Detected}
 use Rattle.pilot_phase.specs.declared.PilotAnswer.{PilotAnswer}
-use Rattle.pilot_phase.specs.declared.Pilot.{Pilot}
-use Rattle.pilot_phase.specs.declared.Run.{Run}
-use Rattle.pilot_phase.specs.Ballots.{pilots, twelveApart, timesPilot, productSum, energySum}
-use Rattle.pilot_phase.specs.PilotPhase.{wonBy, noCounts}
-
--- ---- one spectrum
--- count carriers from the lowest on, 12 apart
-abbrev pub twelfths : ℕ → ℕ → List ℕ
-twelfths lowest count = upTo (λ i. lowest + 12 * i) count
-
--- the run s with the next pilot not 12 further on
-pub record Parted (s r : Run) : Type 0 where
-  pub joined : r .joined ≡ false
-  pub sum : r .sum ≡ s .sum
-  pub energy : r .energy ≡ s .energy
-
--- a pilot has its squared size, in f64
-pub record Sized (p : Pilot) : Type 0 where
-  pub square : p .square ≡ squaredSize binary64 (of32 (p .value))
-
--- the pilot at carrier k, by the signs of the carriers
-pub record PilotAt (y : List Float) (signs : List ℕ) (k : ℕ) (p : Pilot) : Type 0 where
-  pub value : of32 (p .value) ≡ scaled binary32 (pairAt y k) (pilotValue (getD signs k 0) .re)
-  pub sized : Sized p
-
--- the run s with a pilot v more
-pub record Joined (s : Run) (v : Pair) (r : Run) : Type 0 where
-  pub joined : r .joined ≡ true
-  pub value : of32 (r .value) ≡ v
-  pub norm : r .norm ≡ norm32 v
-  pub sum : of32 (r .sum) ≡ cond (s .joined) (plus binary32 (of32 (s .sum)) (product binary32 v (conjugate (of32 (s .value))))) (of32 (s .sum))
-  pub energy : r .energy ≡ cond (s .joined) (add binary32 (s .energy) (mul binary32 (s .norm) (norm32 v))) (s .energy)
-
--- a run keeps the last of the pilots ks, 12 below the next
-pub record Kept (mode : Mode) (y : ℕ → Pair) (ks : List ℕ) (next : ℕ) (r : Run) : Type 0 where
-  pub earlier : List ℕ
-  pub last : ℕ
-  pub ends : ks ≡ earlier ++ (last ∷ [])
-  pub twelve : next ≡ last + 12
-  pub value : of32 (r .value) ≡ timesPilot mode y last
-  pub norm : r .norm ≡ norm32 (timesPilot mode y last)
-
--- a run over the pilots ks of the spectrum y, where the next is `next`, or above it if the run is not joined
-pub record Walked (mode : Mode) (y : ℕ → Pair) (ks : List ℕ) (next : ℕ) (r : Run) : Type 0 where
-  pub sum : of32 (r .sum) ≡ productSum mode y (twelveApart ks)
-  pub energy : r .energy ≡ energySum mode y (twelveApart ks)
-  pub kept : r .joined ≡ true → Kept mode y ks next r
-  pub apart : r .joined ≡ false → (n : ℕ) → next ≤ n → twelveApart (ks ++ (n ∷ [])) ≡ twelveApart ks
-
--- count carriers from the lowest on, at least one, 12 apart, lie within a spectrum of n floats with m signs: the last is below m
-pub record Walkable (lowest count n m : ℕ) : Type 0 where
-  pub some : 0 < count
-  pub inside : lowest + 12 * count < m + 12
-  pub floats : n ≡ 2 * m
-  pub small : m ≤ 5617
-
--- the run s led on over such carriers, whatever was walked before
-pub record Walks (s : Run) (y : List Float) (signs : List ℕ) (lowest count : ℕ) (r : Run) : Type 0 where
-  pub walked : (mode : Mode) → signs ≡ bandSigns mode → (ks : List ℕ) → Walked mode (pairAt y) ks lowest s
-      → Walked mode (pairAt y) (ks ++ twelfths lowest count) (lowest + 12 * count) r
-
--- n floats are one spectrum of the band, with the band's signs
-pub record Spectrum (mode : Mode) (n : ℕ) (signs : List ℕ) : Type 0 where
-  pub floats : n ≡ 2 * totalCarriers mode
-  pub signed : signs ≡ bandSigns mode
+use Rattle.pilot_phase.specs.PilotPhase.{votes, countsOf, detected, noCounts}
 
 -- ---- the votes
--- n floats are whole spectra of the band, at most 1,024, with the band's signs
-pub record Votable (mode : Mode) (n : ℕ) (signs : List ℕ) : Type 0 where
+-- n floats are whole spectra of the band, at most 1,024
+pub record Whole (mode : Mode) (n : ℕ) : Type 0 where
   pub whole : n % (2 * totalCarriers mode) ≡ 0
   pub few : spectraIn (totalCarriers mode) n ≤ 1024
+
+-- with the band's signs
+pub record Votable (mode : Mode) (n : ℕ) (signs : List ℕ) : Type 0 where
+  pub spectra : Whole mode n
   pub signed : signs ≡ bandSigns mode
 
--- the phase with the most votes
-pub record Won (counts : List ℕ) (r : ℕ) : Type 0 where
-  pub won : r ≡ wonBy counts
-  pub phase : r < 4
+-- each of the counts of n spectra is few
+pub record Counted (counts : List ℕ) (n : ℕ) : Type 0 where
+  pub each : (p : ℕ) → p < 4 → Few (getD counts p 0) n
 
 -- ---- the answers
--- whether there are scattered pilots
-abbrev pub somePilots : Mode → List ℕ → Bool
-somePilots mode kinds = not (eqb (length (pilots mode kinds 0)) 0)
+-- the number that refuses the layout, or else the length of n floats
+abbrev pub lengthCode : ℕ → Mode → ℕ → ℕ
+lengthCode code mode n = cond (eqb code 0) (unless (areSpectra (totalCarriers mode) n) 5 0) code
 
 -- nothing was counted
 pub record Nothing (answer : PhaseAnswer) (r : PilotAnswer) : Type 0 where
   pub same : r .answer ≡ answer
   pub counts : r .counts ≡ noCounts
   pub lead : r .lead ≡ 0
+
+-- what these counts of the votes of `total` spectra tell
+pub record Told (counts : List ℕ) (total : ℕ) (r : PilotAnswer) : Type 0 where
+  pub answer : r .answer ≡ Detected (Phase (wonBy counts) (shareOf (getD counts (wonBy counts) 0) total))
+  pub same : r .counts ≡ counts
+  pub lead : r .lead ≡ leadOf counts
+
+-- the counts of an accepted call, and all that it answers
+unfoldable pub acceptedCounts : Mode → List ℕ → List Float → List ℕ
+acceptedCounts mode kinds xs = cond (eqb (length (pilots mode kinds 0)) 0) noCounts (countsOf (votes (ballots mode kinds xs)))
+
+pub record Accepted (mode : Mode) (kinds : List ℕ) (xs : List Float) (r : PilotAnswer) : Type 0 where
+  pub answer : r .answer ≡ Detected (detected mode kinds xs)
+  pub counts : r .counts ≡ acceptedCounts mode kinds xs
+  pub lead : r .lead ≡ leadOf (acceptedCounts mode kinds xs)

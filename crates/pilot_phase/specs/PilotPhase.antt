@@ -1,15 +1,14 @@
 -- The pilot phase (acquire.rs, `detect_sp_phase`; document 01, "The pilot phase"). Each symbol's choice, turned back by the symbol's number, is
 -- its vote for the phase of symbol 0; the phase with the most votes is answered, with its share of them, the four counts and the lead. All this
--- is a function of the ballots (`Ballots`).
+-- is a function of the ballots (ballots/specs/Ballots, winner/specs/Winner).
 -- Definitions only.
 use Prim.Native.Nat.{ℕ, suc, _+_, _-_, _%_}
 use mathlib.Core.Bool.{cond}
 use mathlib.Core.List.{List, [], _∷_}
 use mathlib.Core.Path.{_≡_}
-use lib.Dec.{eqb, leb, ltb}
-use lib.IntN.{pos}
+use lib.Dec.{eqb}
 use lib.ListN.{getD, length}
-use lib.Ieee.{Float, binary32, div, ofInt}
+use lib.Ieee.{Float}
 use Rattle.lists.specs.Lists.{upTo}
 use Rattle.lists.specs.Refusals.{unless}
 use Rattle.params.specs.declared.Mode.{Mode}
@@ -23,7 +22,8 @@ use Rattle.pilot_phase.specs.declared.PilotPhase.the-variants.{NoScatter
 use Rattle.pilot_phase.specs.declared.PhaseAnswer.{PhaseAnswer}
 use Rattle.pilot_phase.specs.declared.PhaseAnswer.the-variants.{Detected, Refused}
 use Rattle.pilot_phase.specs.declared.PilotAnswer.{PilotAnswer}
-use Rattle.pilot_phase.specs.Ballots.{pilots, Ballot, ballots}
+use Rattle.ballots.specs.Ballots.{pilots, Ballot, ballots}
+use Rattle.winner.specs.Winner.{wonBy, shareOf, leadOf}
 
 -- ---- from the phase of symbol 0 to that of symbol j, and back
 abbrev pub phaseAt : ℕ → ℕ → ℕ
@@ -56,35 +56,9 @@ plusCounts xs ys = upTo (λ v. getD xs v 0 + getD ys v 0) 4
 abbrev pub turnedBack : ℕ → List ℕ → List ℕ
 turnedBack n counts = upTo (λ v. getD counts (phaseAt v n) 0) 4
 
--- ---- the phase with the most votes, the larger on a tie; its share; the lead over the next
-abbrev pub better : List ℕ → ℕ → ℕ → ℕ
-better counts a b = cond (leb (getD counts a 0) (getD counts b 0)) b a
-
-unfoldable pub wonBy : List ℕ → ℕ
-wonBy counts = better counts (better counts (better counts 0 1) 2) 3
-
-unfoldable pub shareOf : ℕ → ℕ → Float
-shareOf n total = div binary32 (ofInt binary32 (pos n)) (ofInt binary32 (pos (cond (eqb total 0) 1 total)))
-
+-- ---- what the votes detect: the winner of their counts, with its share of them
 unfoldable pub phaseOf : List Ballot → PilotPhase
 phaseOf bs = let counts = countsOf (votes bs) in Phase (wonBy counts) (shareOf (getD counts (wonBy counts) 0) (length bs))
-
-abbrev pub larger : ℕ → ℕ → ℕ
-larger x m = cond (ltb m x) x m
-
-abbrev pub largest : List ℕ → ℕ
-largest [] = 0
-largest (x ∷ xs) = larger x (largest xs)
-
--- the four counts with 0 for that of phase p; the largest of the other three
-abbrev pub others : List ℕ → ℕ → List ℕ
-others counts p = upTo (λ q. cond (eqb q p) 0 (getD counts q 0)) 4
-
-unfoldable pub nextTo : List ℕ → ℕ → ℕ
-nextTo counts p = largest (others counts p)
-
-unfoldable pub leadOf : List ℕ → ℕ
-leadOf counts = getD counts (wonBy counts) 0 - nextTo counts (wonBy counts)
 
 -- ---- the operation: 1; 2; 5 unless whole spectra, 0 to 1,024
 unfoldable pub phaseCode : ModeNumber → List ℕ → ℕ → ℕ

@@ -1,26 +1,13 @@
-// The scattered-pilot phase (acquire.rs of isdb-rs, `detect_sp_phase`). For every spectrum and phase,
-// products of pilots 12 carriers apart, their known signs multiplied in, add up coherently for the
-// right phase alone. Every spectrum votes.
+// The scattered-pilot phase (acquire.rs of isdb-rs, `detect_sp_phase`). Every spectrum votes for the phase
+// of symbol 0 by its ballot, turned back; the votes are counted, and the phase with the most is answered.
 ghost use mathlib.Core.Path.{_≡_};
-ghost use Prim.Native.Nat.{_*_, _≤_, _<_};
 ghost use lib.ListN.{length};
 ghost use Rattle.params.specs.Params.{modeFrom};
-ghost use Rattle.complex.specs.Complex.{of32};
-ghost use Rattle.spectra.specs.Spectra.{pairAt};
-ghost use Rattle.pilot_phase.specs.Ballots.{phaseMetric, choiceOf, ballots};
-ghost use Rattle.pilot_phase.specs.PilotPhase.{votes, countsOf, nextTo, PhaseDetected};
-ghost use Rattle.pilot_phase.specs.Inner.{Parted, Sized, PilotAt, Joined, Walkable, Walks, Spectrum};
-ghost use Rattle.pilot_phase.specs.Inner.{Votable, Won, somePilots, Nothing};
-use complex::C32;
+ghost use Rattle.ballots.specs.Ballots.{ballots};
+ghost use Rattle.pilot_phase.specs.PilotPhase.{votes, countsOf, PhaseDetected};
+ghost use Rattle.pilot_phase.specs.Inner.{Whole, Votable, Counted, Nothing, Told, lengthCode, Accepted};
 use frame::FrameLayout;
-use ofdm::BandCarrier;
-use ofdm::BandPlace;
-use ofdm::Segment;
-use ofdm::SegmentPlace;
 use params::Mode;
-use params::SegmentKind;
-
-const MINUS_ONE: f32 = -1.0;
 
 pub enum PilotPhase {
     NoScatteredPilots,
@@ -41,161 +28,7 @@ pub struct PilotAnswer {
     pub lead: u32,
 }
 
-// Sums over pilots 12 carriers apart, and the last pilot with its norm, if the next is 12 further on.
-pub struct Run {
-    pub joined: bool,
-    pub value: C32,
-    pub norm: f32,
-    pub sum: C32,
-    pub energy: f32,
-}
-
-// A carrier's pair times its pilot's value, which takes the pilot's sign out of it; and its squared size.
-pub struct Pilot {
-    pub value: C32,
-    pub square: f64,
-}
-
-impl Run {
-    // The next pilot is not 12 further on.
-    fn apart(self) -> Run
-        ensures { λ r. ⌜ Parted self r ⌝ }
-    {
-        let v = self.value;
-        let s = self.sum;
-        Run {
-            joined: false,
-            value: v,
-            norm: self.norm,
-            sum: s,
-            energy: self.energy,
-        }
-    }
-
-    // A pilot more.
-    fn join(self, pilot: Pilot) -> Run
-        requires { ⌜ Sized pilot ⌝ }
-        ensures { λ r. ⌜ Joined self (of32 (pilot .value)) r ⌝ }
-    {
-        let v = pilot.value;
-        let norm = ieee::narrow_root(pilot.square);
-        let s = self.sum;
-        if !self.joined {
-            return Run {
-                joined: true,
-                value: v,
-                norm: norm,
-                sum: s,
-                energy: self.energy,
-            };
-        }
-        let w = self.value;
-        let sum = s.add(v.mul(w.conj()));
-        let energy = self.energy + self.norm * norm;
-        Run {
-            joined: true,
-            value: v,
-            norm: norm,
-            sum: sum,
-            energy: energy,
-        }
-    }
-}
-
-// The pilot at carrier k.
-fn pilot_at(y: &[f32], signs: &[u8], carrier: BandCarrier) -> Pilot
-    requires { ⌜ (carrier .0 < length (now signs)) × (length (now y) ≡ 2 * length (now signs)) × (length (now signs) ≤ 5617) ⌝ }
-    ensures { λ r. ⌜ PilotAt (now (y .entry)) (now (signs .entry)) (carrier .0) r ⌝ }
-{
-    let k = carrier.0;
-    let x = spectra::pair_at(y, k);
-    let pilot = prbs::pilot_value(signs[k]);
-    let value = x.scale(pilot.re);
-    Pilot {
-        value: value,
-        square: value.wide_norm_sqr(),
-    }
-}
-
-// The pilots of a coherent segment from its lowest on: `count` of them, 12 carriers apart. Each is
-// read before the root of the one below it is taken: neither waits for the other, so the processor
-// works at both.
-fn walk_segment(start: Run, y: &[f32], signs: &[u8], lowest: BandCarrier, count: usize) -> Run
-    requires { ⌜ Walkable (lowest .0) count (length (now y)) (length (now signs)) ⌝ }
-    ensures { λ r. ⌜ Walks start (now (y .entry)) (now (signs .entry)) (lowest .0) count r ⌝ }
-{
-    let mut run = start;
-    let mut pilot = pilot_at(y, signs, lowest);
-    let mut k = lowest.0;
-    let last = count - 1;
-    let mut i: usize = 0;
-    while i < last {
-        k += 12;
-        let next = pilot_at(y, signs, BandCarrier(k));
-        run = run.join(pilot);
-        pilot = next;
-        i += 1;
-    }
-    run.join(pilot)
-}
-
-// How coherent the pilots of a phase are in the spectrum y.
-fn phase_metric(layout: FrameLayout, y: &[f32], signs: &[u8], phase: u8) -> f32
-    requires { ⌜ (phase < 4) × Spectrum (layout .mode) (length (now y)) (now signs) ⌝ }
-    ensures { λ r. ⌜ r ≡ phaseMetric (layout .mode) (layout .kinds) (pairAt (now (y .entry))) phase ⌝ }
-{
-    let mode = layout.mode;
-    let c = mode.carriers_per_segment();
-    let mut run = Run {
-        joined: false,
-        value: C32::new(0.0, 0.0),
-        norm: 0.0,
-        sum: C32::new(0.0, 0.0),
-        energy: 0.0,
-    };
-    let mut place: usize = 0;
-    while place < 13 {
-        let seg = ofdm::segment_at_position(BandPlace(place));
-        match layout.kind(seg) {
-            SegmentKind::Coherent => {
-                let low = 3 * phase as usize;
-                let lowest = ofdm::band_carrier(mode, BandPlace(place), SegmentPlace(low));
-                run = walk_segment(run, y, signs, lowest, c / 12);
-            }
-            SegmentKind::Differential => {
-                run = run.apart();
-            }
-        }
-        place += 1;
-    }
-    if run.energy > 0.0 {
-        let sum = run.sum;
-        sum.re / run.energy
-    } else {
-        0.0
-    }
-}
-
-// The first phase with the greatest metric in the spectrum y.
-fn choice(layout: FrameLayout, y: &[f32], signs: &[u8]) -> u8
-    requires { ⌜ Spectrum (layout .mode) (length (now y)) (now signs) ⌝ }
-    ensures { λ r. ⌜ r ≡ choiceOf (layout .mode) (layout .kinds) (pairAt (now (y .entry))) ⌝ }
-{
-    let mut best: u8 = 0;
-    let mut metric = MINUS_ONE;
-    let mut phase: u8 = 0;
-    while phase < 4 {
-        let m = phase_metric(layout, y, signs, phase);
-        if m > metric {
-            best = phase;
-            metric = m;
-        }
-        phase += 1;
-    }
-    best
-}
-
-// The votes of all spectra, counted.
+// The votes of all spectra, counted, by the signs of the carriers.
 fn count_votes(layout: FrameLayout, spectra: &[f32], signs: &[u8]) -> [u32; 4]
     requires { ⌜ Votable (layout .mode) (length (now spectra)) (now signs) ⌝ }
     ensures { λ r. ⌜ r ≡ countsOf (votes (ballots (layout .mode) (layout .kinds) (now (spectra .entry)))) ⌝ }
@@ -207,7 +40,7 @@ fn count_votes(layout: FrameLayout, spectra: &[f32], signs: &[u8]) -> [u32; 4]
     let mut j: usize = 0;
     while from < spectra.len() {
         let to = from + w;
-        let phase = choice(layout, &spectra[from..to], signs) as usize;
+        let phase = ballots::choice(layout, &spectra[from..to], signs) as usize;
         let vote = (phase + 4 - j % 4) % 4;
         counts[vote] = counts[vote] + 1;
         from = to;
@@ -216,36 +49,33 @@ fn count_votes(layout: FrameLayout, spectra: &[f32], signs: &[u8]) -> [u32; 4]
     counts
 }
 
-// The phase with the most votes, the larger on a tie.
-fn won_by(counts: [u32; 4]) -> usize
-    ensures { λ r. ⌜ Won counts r ⌝ }
+// The same, by the signs of the band.
+fn all_votes(layout: FrameLayout, spectra: &[f32]) -> [u32; 4]
+    requires { ⌜ Whole (layout .mode) (length (now spectra)) ⌝ }
+    ensures { λ r. ⌜ r ≡ countsOf (votes (ballots (layout .mode) (layout .kinds) (now (spectra .entry)))) ⌝ }
 {
-    let mut best: usize = 0;
-    let mut p: usize = 1;
-    while p < 4 {
-        if counts[best] <= counts[p] {
-            best = p;
-        }
-        p += 1;
-    }
-    best
+    let mode = layout.mode;
+    let k = mode.total_carriers();
+    let mut buffer = prbs::sign_buffer();
+    prbs::band_w(mode, &mut buffer[..k]);
+    count_votes(layout, spectra, &buffer[..k])
 }
 
-// The largest of the counts of the phases other than p.
-fn next_to(counts: [u32; 4], p: usize) -> u32
-    ensures { λ r. ⌜ r ≡ nextTo counts p ⌝ }
+// What the counts of the votes of `total` spectra tell.
+fn counted(counts: [u32; 4], total: usize) -> PilotAnswer
+    requires { ⌜ Counted counts total ⌝ }
+    ensures { λ r. ⌜ Told counts total r ⌝ }
 {
-    let mut most: u32 = 0;
-    let mut q: usize = 0;
-    while q < 4 {
-        if q != p {
-            if most < counts[q] {
-                most = counts[q];
-            }
-        }
-        q += 1;
+    let won = winner::won_by(counts);
+    let votes = counts[won];
+    let share = winner::share_of(votes, total);
+    let phase = won as u8;
+    let lead = votes - winner::next_to(counts, won);
+    PilotAnswer {
+        answer: PhaseAnswer::Detected(PilotPhase::Phase(phase, share)),
+        counts: counts,
+        lead: lead,
     }
-    most
 }
 
 // An answer in which nothing was counted.
@@ -259,22 +89,34 @@ fn nothing(answer: PhaseAnswer) -> PilotAnswer
     }
 }
 
-// Whether a segment is coherent, and so has scattered pilots.
-fn has_pilots(layout: FrameLayout) -> bool
-    ensures { λ r. ⌜ r ≡ somePilots (layout .mode) (layout .kinds) ⌝ }
+// What an accepted call answers: where no segment is coherent, that there are no scattered pilots.
+fn accepted(layout: FrameLayout, spectra: &[f32]) -> PilotAnswer
+    requires { ⌜ Whole (layout .mode) (length (now spectra)) ⌝ }
+    ensures { λ r. ⌜ Accepted (layout .mode) (layout .kinds) (now (spectra .entry)) r ⌝ }
 {
-    let mut seg: usize = 0;
-    while seg < 13 {
-        match layout.kind(Segment(seg)) {
-            SegmentKind::Coherent => {
-                return true;
-            }
-            SegmentKind::Differential => {
-                seg += 1;
-            }
-        }
+    if !ballots::has_pilots(layout) {
+        return nothing(PhaseAnswer::Detected(PilotPhase::NoScatteredPilots));
     }
-    false
+    let mode = layout.mode;
+    let w = 2 * mode.total_carriers();
+    counted(all_votes(layout, spectra), spectra.len() / w)
+}
+
+// The number that refuses the layout; or else 5 unless n floats are whole spectra, at most 1,024; or 0.
+fn refusal(layout: u8, mode: Mode, n: usize) -> u8
+    ensures { λ r. ⌜ r ≡ lengthCode layout mode n ⌝ }
+{
+    if layout != 0 {
+        return layout;
+    }
+    let w = 2 * mode.total_carriers();
+    if n % w != 0 {
+        return 5;
+    }
+    if n / w > 1024 {
+        return 5;
+    }
+    0
 }
 
 // The phase of symbol 0, with its share of the votes, the counts and the lead. The answer of an
@@ -286,36 +128,11 @@ pub fn detect_sp_phase(mode: u8, kinds: &[u8], spectra: &[f32]) -> PilotAnswer
     ensures { λ r. ⌜ PhaseDetected (modeFrom mode) (now (kinds .entry)) (now (spectra .entry)) r ⌝ }
 {
     let new = FrameLayout::new(mode, kinds);
-    let code = new.code;
+    let layout = new.layout;
+    let m = layout.mode;
+    let code = refusal(new.code, m, spectra.len());
     if code != 0 {
         return nothing(PhaseAnswer::Refused(code));
     }
-    let layout = new.layout;
-    let m = layout.mode;
-    let k = m.total_carriers();
-    let w = 2 * k;
-    if spectra.len() % w != 0 {
-        return nothing(PhaseAnswer::Refused(5));
-    }
-    let total = spectra.len() / w;
-    if total > 1024 {
-        return nothing(PhaseAnswer::Refused(5));
-    }
-    if !has_pilots(layout) {
-        return nothing(PhaseAnswer::Detected(PilotPhase::NoScatteredPilots));
-    }
-    let mut buffer = prbs::sign_buffer();
-    prbs::band_w(m, &mut buffer[..k]);
-    let counts = count_votes(layout, spectra, &buffer[..k]);
-    let won = won_by(counts);
-    let votes = counts[won];
-    let all = if total == 0 { 1 } else { total };
-    let share = votes as f32 / all as f32;
-    let phase = won as u8;
-    let lead = votes - next_to(counts, won);
-    PilotAnswer {
-        answer: PhaseAnswer::Detected(PilotPhase::Phase(phase, share)),
-        counts: counts,
-        lead: lead,
-    }
+    accepted(layout, spectra)
 }

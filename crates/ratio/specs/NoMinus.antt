@@ -8,7 +8,8 @@ use lib.IntN.{pos}
 use lib.ListN.{getD}
 use lib.Ieee.{Float, nan, inf, fin, binary32, binary64, div, lt}
 use Rattle.ieee.specs.Constants.{plusZero, plus-zero-is}
-use Rattle.ieee.specs.Signs.{negative, square-sign, plus-sign, quotient-sign, root-sign, narrow-sign}
+use Rattle.ieee.specs.Signs.{negative, square-sign, plus-sign, quotient-sign, narrow-sign}
+use Rattle.root.specs.RootUnits.{root-sign}
 use Rattle.lists.specs.Select.{getD-upTo}
 use Rattle.complex.specs.Complex.{Pair, norm64, norm32}
 use Rattle.spectra.specs.Spectra.{binPairs}

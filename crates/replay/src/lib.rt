@@ -1,129 +1,29 @@
 // What the replay programs share: they read stored answers from standard input, part by part,
 // compare each entry with what the port answers, and print how many were compared and how many
 // differ.
-ghost use Prim.Native.Nat.{_+_, _*_, _≤_};
-ghost use mathlib.Core.Bool.{true, false, cond};
+ghost use Prim.Native.Nat.{_+_, _-_, _*_, _<_, _≤_};
 ghost use mathlib.Core.Path.{_≡_};
-ghost use lib.Dec.{eqb};
+ghost use lib.Ieee.{nan};
 ghost use lib.ListN.{length, getD};
-ghost use Rattle.replay.specs.Tally.{capped, Counted, unlike, numberAt, holds};
+ghost use Rattle.replay.specs.Answers.{numberAt, wordAt, longAt, numberOf, bits32, bits64, placeOf, owedAt, Holds, Compared};
 use libc::STDIN_FILENO;
 use libc::STDOUT_FILENO;
+use tally::Tally;
 
-// How many entries were compared, how many differences there are, and whether the input was cut:
-// it ended in the middle of something, or what it held could not be read on.
-pub struct Tally {
-    pub compared: u64,
-    pub differ: u64,
-    pub cut: bool,
-}
-
-// a + b, or the largest number where that is more.
-fn sum(a: u64, b: u64) -> u64
-    ensures { λ r. ⌜ r ≡ capped (a + b) ⌝ }
-{
-    if u64::MAX - b < a {
-        return u64::MAX;
-    }
-    a + b
-}
-
-// A difference, unless `good`.
-fn unless(good: bool) -> u64
-    ensures { λ r. ⌜ r ≡ cond good 0 1 ⌝ }
-{
-    if good { 0 } else { 1 }
-}
-
-impl Tally {
-    pub fn new() -> Tally
-        ensures { λ r. ⌜ (r .compared ≡ 0) × (r .differ ≡ 0) × (r .cut ≡ false) ⌝ }
-    {
-        Tally {
-            compared: 0,
-            differ: 0,
-            cut: false,
-        }
-    }
-
-    // One more entry, which is the same on both sides or not.
-    pub fn entry(self, same: bool) -> Tally
-        ensures { λ r. ⌜ Counted self 1 (cond same 0 1) (self .cut) r ⌝ }
-    {
-        Tally {
-            compared: sum(self.compared, 1),
-            differ: sum(self.differ, unless(same)),
-            cut: self.cut,
-        }
-    }
-
-    // A difference, unless `good`, that belongs to no entry.
-    pub fn expect(self, good: bool) -> Tally
-        ensures { λ r. ⌜ Counted self 0 (cond good 0 1) (self .cut) r ⌝ }
-    {
-        Tally {
-            compared: self.compared,
-            differ: sum(self.differ, unless(good)),
-            cut: self.cut,
-        }
-    }
-
-    // The input was cut here: one difference.
-    pub fn ended(self) -> Tally
-        ensures { λ r. ⌜ Counted self 0 1 true r ⌝ }
-    {
-        Tally {
-            compared: self.compared,
-            differ: sum(self.differ, 1),
-            cut: true,
-        }
-    }
-
-    // This count, where the input was read on by another one.
-    pub fn after(self, other: Tally) -> Tally
-        ensures { λ r. ⌜ Counted self 0 0 (other .cut) r ⌝ }
-    {
-        Tally {
-            compared: self.compared,
-            differ: self.differ,
-            cut: other.cut,
-        }
-    }
-
-    // Both counts together.
-    pub fn with(self, other: Tally) -> Tally
-        ensures { λ r. ⌜ Counted self (other .compared) (other .differ) (self .cut) r ⌝ }
-    {
-        Tally {
-            compared: sum(self.compared, other.compared),
-            differ: sum(self.differ, other.differ),
-            cut: self.cut,
-        }
-    }
-
-    // Prints a line, as `roles 79176 compared, 0 differ`.
-    pub fn print(self, name: &[u8]) {
-        io::write_all(STDOUT_FILENO, name);
-        io::write_all(STDOUT_FILENO, b" ");
-        io::print_decimal(STDOUT_FILENO, self.compared);
-        io::write_all(STDOUT_FILENO, b" compared, ");
-        io::print_decimal(STDOUT_FILENO, self.differ);
-        io::write_all(STDOUT_FILENO, b" differ\n");
-    }
+// Prints a line, as `first states 39 compared, 0 differ`.
+pub fn print_tally(name: &[u8], tally: Tally) {
+    io::write_all(STDOUT_FILENO, name);
+    io::write_all(STDOUT_FILENO, b" ");
+    io::print_decimal(STDOUT_FILENO, tally.compared);
+    io::write_all(STDOUT_FILENO, b" compared, ");
+    io::print_decimal(STDOUT_FILENO, tally.differ);
+    io::write_all(STDOUT_FILENO, b" differ\n");
 }
 
 // Prints the last line, as `0 differences`.
 pub fn print_differences(n: u64) {
     io::print_decimal(STDOUT_FILENO, n);
     io::write_all(STDOUT_FILENO, b" differences\n");
-}
-
-// Room for the largest part of a record: a number of two bytes for each carrier of the largest band.
-// The `ensures` gives the length alone, which lending needs.
-pub fn part_room() -> [u8; 11234]
-    ensures { λ r. ⌜ 11234 ≡ length r ⌝ }
-{
-    [0; 11234]
 }
 
 // Reads the next n bytes of the input to the start of room: whether they were there and found room.
@@ -182,87 +82,395 @@ pub fn read_byte() -> Stored {
     Stored::Number(wide(room[0]))
 }
 
-// Reads a number of two bytes, the low one first.
-pub fn read_number() -> Stored {
-    let mut room = [0u8; 2];
-    if !read_part(&mut room, 2) {
-        return Stored::Cut;
-    }
-    Stored::Number(number_at(&room, 0))
-}
-
-// Compares the first n bytes that the port gave with those that are stored.
-fn compare_bytes(got: &[u8], stored: &[u8], n: usize, tally: Tally) -> Tally
-    requires { ⌜ (n ≤ length (now got)) × (n ≤ length (now stored)) ⌝ }
-    ensures { λ r. ⌜ Counted tally n (unlike (λ i. eqb (getD (now (got .entry)) i 0) (getD (now (stored .entry)) i 0)) n) (tally .cut) r ⌝ }
+// The numbers of four and of eight bytes.
+fn word_at(bytes: &[u8], at: usize) -> u64
+    requires { ⌜ at + 4 ≤ length (now bytes) ⌝ }
+    ensures { λ r. ⌜ (r ≡ wordAt (now (bytes .entry)) at) × (r < 4294967296) ⌝ }
 {
-    let mut t = tally;
-    let mut i: usize = 0;
-    while i < n {
-        t = t.entry(got[i] == stored[i]);
-        i += 1;
-    }
-    t
+    number_at(bytes, at + 2) * 65536 + number_at(bytes, at)
 }
 
-fn wide_number(number: u32) -> u64
+fn long_at(bytes: &[u8], at: usize) -> u64
+    requires { ⌜ at + 8 ≤ length (now bytes) ⌝ }
+    ensures { λ r. ⌜ r ≡ longAt (now (bytes .entry)) at ⌝ }
+{
+    word_at(bytes, at + 4) * 4294967296 + word_at(bytes, at)
+}
+
+// The number at a place of numbers that have 1, 4 or 8 bytes each.
+fn number_of(bytes: &[u8], size: u8, place: usize) -> u64
+    requires { ⌜ 8 * place + 8 ≤ length (now bytes) ⌝ }
+    ensures { λ r. ⌜ r ≡ numberOf (now (bytes .entry)) size place ⌝ }
+{
+    if size == 1 {
+        return wide(bytes[place]);
+    }
+    if size == 4 {
+        return word_at(bytes, 4 * place);
+    }
+    long_at(bytes, 8 * place)
+}
+
+// The bits of a float; every NaN has the same ones.
+fn bits_32(x: f32) -> u64
+    ensures { λ r. ⌜ r ≡ bits32 x ⌝ }
+{
+    if x != x {
+        return 0x7fc0_0000;
+    }
+    wide_word(f32::to_bits(x))
+}
+
+fn bits_64(x: f64) -> u64
+    ensures { λ r. ⌜ r ≡ bits64 x ⌝ }
+{
+    if x != x {
+        return 0x7ff8_0000_0000_0000;
+    }
+    f64::to_bits(x)
+}
+
+fn wide_word(number: u32) -> u64
     ensures { λ r. ⌜ r ≡ number ⌝ }
 {
     number as u64
 }
 
-// Whether a list has a number at an index.
-fn has(list: &[u32], i: usize, number: u64) -> bool
-    ensures { λ r. ⌜ r ≡ holds (now (list .entry)) i number ⌝ }
-{
-    if list.len() <= i {
-        return false;
-    }
-    wide_number(list[i]) == number
+// What a stored answer owes of something that was lent: entries of so many bytes, of which the first
+// ones are written; how many of those are stored, since of entries that are all alike one is; and what
+// every entry was before the call, which all others must still be.
+struct Owed {
+    size: u8,
+    before: u64,
+    written: usize,
+    kept: usize,
+    cut: bool,
 }
 
-// Compares what the port gave with the first n numbers that are stored.
-fn compare_numbers(got: &[u32], stored: &[u8], n: usize, tally: Tally) -> Tally
-    requires { ⌜ 2 * n ≤ length (now stored) ⌝ }
-    ensures { λ r. ⌜ Counted tally n (unlike (λ i. holds (now (got .entry)) i (numberAt (now (stored .entry)) (2 * i))) n) (tally .cut) r ⌝ }
+impl Owed {
+    // The place of an entry among the stored ones.
+    fn place(self, i: usize) -> usize
+        ensures { λ r. ⌜ (r ≡ placeOf (self .kept) i) × (r ≤ self .kept - 1) ⌝ }
+    {
+        if i < self.kept { i } else { 0 }
+    }
+}
+
+// What an entry must be.
+fn owed_entry(stored: &[u8], owed: Owed, i: usize) -> u64
+    requires { ⌜ Holds (now stored) owed ⌝ }
+    ensures { λ r. ⌜ r ≡ owedAt (now (stored .entry)) owed i ⌝ }
+{
+    if owed.written <= i {
+        return owed.before;
+    }
+    number_of(stored, owed.size, owed.place(i))
+}
+
+// Compares every entry that the port was lent with what it must be.
+fn compare_bytes(got: &[u8], stored: &[u8], owed: Owed, tally: Tally) -> Tally
+    requires { ⌜ Holds (now stored) owed ⌝ }
+    ensures { λ r. ⌜ Compared (λ i. getD (now (got .entry)) i 0) (now (stored .entry)) owed (length (now (got .entry))) tally r ⌝ }
 {
     let mut t = tally;
     let mut i: usize = 0;
-    while i < n {
-        t = t.entry(has(got, i, number_at(stored, 2 * i)));
+    while i < got.len() {
+        t = t.entry(wide(got[i]) == owed_entry(stored, owed, i));
         i += 1;
     }
     t
 }
 
-// Reads n bytes, and compares each with what the port gave.
-pub fn check_bytes(got: &[u8], n: usize, tally: Tally) -> Tally
-    requires { ⌜ n ≤ length (now got) ⌝ }
+fn compare_words(got: &[u32], stored: &[u8], owed: Owed, tally: Tally) -> Tally
+    requires { ⌜ Holds (now stored) owed ⌝ }
+    ensures { λ r. ⌜ Compared (λ i. getD (now (got .entry)) i 0) (now (stored .entry)) owed (length (now (got .entry))) tally r ⌝ }
 {
-    if tally.cut {
-        return tally;
+    let mut t = tally;
+    let mut i: usize = 0;
+    while i < got.len() {
+        t = t.entry(wide_word(got[i]) == owed_entry(stored, owed, i));
+        i += 1;
     }
-    let mut room = part_room();
-    if 11234 < n {
-        return tally.ended();
-    }
-    if !read_part(&mut room, n) {
-        return tally.ended();
-    }
-    compare_bytes(got, &room, n, tally)
+    t
 }
 
-// Reads n numbers of two bytes, and compares each with what the port gave.
-pub fn check_numbers(got: &[u32], n: usize, tally: Tally) -> Tally {
+fn compare_floats(got: &[f32], stored: &[u8], owed: Owed, tally: Tally) -> Tally
+    requires { ⌜ Holds (now stored) owed ⌝ }
+    ensures { λ r. ⌜ Compared (λ i. bits32 (getD (now (got .entry)) i nan)) (now (stored .entry)) owed (length (now (got .entry))) tally r ⌝ }
+{
+    let mut t = tally;
+    let mut i: usize = 0;
+    while i < got.len() {
+        t = t.entry(bits_32(got[i]) == owed_entry(stored, owed, i));
+        i += 1;
+    }
+    t
+}
+
+fn compare_doubles(got: &[f64], stored: &[u8], owed: Owed, tally: Tally) -> Tally
+    requires { ⌜ Holds (now stored) owed ⌝ }
+    ensures { λ r. ⌜ Compared (λ i. bits64 (getD (now (got .entry)) i nan)) (now (stored .entry)) owed (length (now (got .entry))) tally r ⌝ }
+{
+    let mut t = tally;
+    let mut i: usize = 0;
+    while i < got.len() {
+        t = t.entry(bits_64(got[i]) == owed_entry(stored, owed, i));
+        i += 1;
+    }
+    t
+}
+
+// The bits of 77, which every entry holds before a call.
+const HELD: u64 = 77;
+
+const HELD_32: u64 = 0x429a_0000;
+
+const HELD_64: u64 = 0x4053_4000_0000_0000;
+
+// The input ends, or makes no sense.
+fn nothing_owed() -> Owed
+    ensures { λ r. ⌜ r .kept ≡ 0 ⌝ }
+{
+    Owed {
+        size: 1,
+        before: HELD,
+        written: 0,
+        kept: 0,
+        cut: true,
+    }
+}
+
+// Bytes of n numbers that have 1, 4 or 8 bytes each.
+fn bytes_of(size: u8, n: usize) -> usize
+    requires { ⌜ n ≤ 65535 ⌝ }
+{
+    match size {
+        1 => n,
+        4 => 4 * n,
+        _ => 8 * n,
+    }
+}
+
+// How many of so many written entries are stored: one where they are all alike. More than there is
+// room for make no sense, and neither does another flag.
+fn kept_of(written: usize, alike: u8) -> usize {
+    match alike {
+        0 => written,
+        1 => if written == 0 { 0 } else { 1 },
+        _ => 65535,
+    }
+}
+
+// Reads what a stored answer owes of `len` entries, and the stored ones to the start of room.
+fn read_owed(room: &mut [u8], len: usize, size: u8, before: u64) -> Owed
+    ensures { λ r. ⌜ r .kept ≤ 8192 ⌝ }
+{
+    let mut head = [0u8; 3];
+    if !read_part(&mut head, 3) {
+        return nothing_owed();
+    }
+    let written = number_at(&head, 0) as usize;
+    let kept = kept_of(written, head[2]);
+    if len < written {
+        return nothing_owed();
+    }
+    if 8192 < kept {
+        return nothing_owed();
+    }
+    if !read_part(room, bytes_of(size, kept)) {
+        return nothing_owed();
+    }
+    Owed {
+        size: size,
+        before: before,
+        written: written,
+        kept: kept,
+        cut: false,
+    }
+}
+
+// Reads a stored answer of a list, and compares each entry with it.
+pub fn check_bytes(got: &[u8], tally: Tally) -> Tally {
     if tally.cut {
         return tally;
     }
-    let mut room = part_room();
-    if 5617 < n {
+    let mut room = io::large_buffer();
+    let owed = read_owed(&mut room, got.len(), 1, HELD);
+    if owed.cut {
         return tally.ended();
     }
-    if !read_part(&mut room, 2 * n) {
+    compare_bytes(got, &room, owed, tally)
+}
+
+pub fn check_words(got: &[u32], tally: Tally) -> Tally {
+    if tally.cut {
+        return tally;
+    }
+    let mut room = io::large_buffer();
+    let owed = read_owed(&mut room, got.len(), 4, HELD);
+    if owed.cut {
         return tally.ended();
     }
-    compare_numbers(got, &room, n, tally)
+    compare_words(got, &room, owed, tally)
+}
+
+pub fn check_floats(got: &[f32], tally: Tally) -> Tally {
+    if tally.cut {
+        return tally;
+    }
+    let mut room = io::large_buffer();
+    let owed = read_owed(&mut room, got.len(), 4, HELD_32);
+    if owed.cut {
+        return tally.ended();
+    }
+    compare_floats(got, &room, owed, tally)
+}
+
+pub fn check_doubles(got: &[f64], tally: Tally) -> Tally {
+    if tally.cut {
+        return tally;
+    }
+    let mut room = io::large_buffer();
+    let owed = read_owed(&mut room, got.len(), 8, HELD_64);
+    if owed.cut {
+        return tally.ended();
+    }
+    compare_doubles(got, &room, owed, tally)
+}
+
+// Reads a stored answer of a single number: what it must be.
+fn read_number(size: u8, before: u64) -> Stored {
+    let mut room = io::large_buffer();
+    let owed = read_owed(&mut room, 1, size, before);
+    if owed.cut {
+        return Stored::Cut;
+    }
+    Stored::Number(owed_entry(&room, owed, 0))
+}
+
+// Compares the bits of a single number with its stored answer.
+fn check_number(got: u64, size: u8, before: u64, tally: Tally) -> Tally {
+    if tally.cut {
+        return tally;
+    }
+    let Stored::Number(number) = read_number(size, before) else {
+        return tally.ended();
+    };
+    tally.entry(got == number)
+}
+
+pub fn check_byte(got: u8, tally: Tally) -> Tally {
+    check_number(wide(got), 1, HELD, tally)
+}
+
+pub fn check_size(got: usize, tally: Tally) -> Tally {
+    check_number(got as u64, 4, HELD, tally)
+}
+
+pub fn check_word(got: u32, tally: Tally) -> Tally {
+    check_number(wide_word(got), 4, HELD, tally)
+}
+
+pub fn check_signed(got: i64, tally: Tally) -> Tally {
+    if tally.cut {
+        return tally;
+    }
+    let Stored::Number(number) = read_number(8, HELD) else {
+        return tally.ended();
+    };
+    tally.entry(got == signed_of(number))
+}
+
+pub fn check_float(got: f32, tally: Tally) -> Tally {
+    check_number(bits_32(got), 4, HELD_32, tally)
+}
+
+pub fn check_double(got: f64, tally: Tally) -> Tally {
+    check_number(bits_64(got), 8, HELD_64, tally)
+}
+
+// The number with a sign that has given bits.
+fn signed_of(bits: u64) -> i64 {
+    if bits < 0x8000_0000_0000_0000 {
+        return bits as i64;
+    }
+    -1 - (u64::MAX - bits) as i64
+}
+
+// The float of given bits; those of a NaN give the plain one.
+pub fn float_of(bits: u64) -> f64 {
+    if 0x7ff0_0000_0000_0000 < bits % 0x8000_0000_0000_0000 {
+        return 0.0 / 0.0;
+    }
+    f64::from_bits(bits)
+}
+
+fn short_float_of(bits: u32) -> f32 {
+    if 0x7f80_0000 < bits % 0x8000_0000 {
+        return 0.0 / 0.0;
+    }
+    f32::from_bits(bits)
+}
+
+// A float as it is stored: in one byte, which is 128 more, or by its bits.
+fn float_at(bytes: &[u8], size: u8, place: usize) -> f32
+    requires { ⌜ 4 * place + 4 ≤ length (now bytes) ⌝ }
+{
+    if size == 1 {
+        return bytes[place] as f32 - 128.0;
+    }
+    short_float_of(word_at(bytes, 4 * place) as u32)
+}
+
+// Writes the first n floats that are stored.
+fn put_floats(bytes: &[u8], size: u8, n: usize, out: &mut [f32])
+    requires { ⌜ (4 * n ≤ length (now bytes)) × (n ≤ length (now out)) ⌝ }
+{
+    let mut i: usize = 0;
+    while i < n {
+        out[i] = float_at(bytes, size, i);
+        i += 1;
+    }
+}
+
+// Room for the floats of a record as they are stored. The `ensures` gives the length alone, which
+// lending needs.
+fn stored_room() -> [u8; 89872]
+    ensures { λ r. ⌜ 89872 ≡ length r ⌝ }
+{
+    [0; 89872]
+}
+
+// Reads n floats of one byte or four bytes each: whether they were there and found room.
+pub fn read_floats(out: &mut [f32], size: u8, n: usize) -> bool {
+    if out.len() < n {
+        return false;
+    }
+    if 22468 < n {
+        return false;
+    }
+    let mut room = stored_room();
+    if !read_part(&mut room, bytes_of(size, n)) {
+        return false;
+    }
+    put_floats(&room, size, n, out);
+    true
+}
+
+// Reads n numbers of eight bytes, which are at most two.
+pub fn read_longs(n: usize) -> Longs {
+    let mut room = [0u8; 16];
+    if 2 < n {
+        return Longs::Cut;
+    }
+    if !read_part(&mut room, 8 * n) {
+        return Longs::Cut;
+    }
+    Longs::Numbers(long_at(&room, 0), long_at(&room, 8))
+}
+
+// The wide numbers of a record, or that the input ended.
+pub enum Longs {
+    Numbers(u64, u64),
+    Cut,
 }

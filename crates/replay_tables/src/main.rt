@@ -7,8 +7,8 @@ ghost use Rattle.params.specs.Params.{dataCarriersPerSegment};
 use params::Mode;
 use params::SegmentKind;
 use replay::Stored;
-use replay::Tally;
 use tables::Positions;
+use tally::Tally;
 
 // A row of the carrier tables, which are numbered in the order of the input.
 fn row_of(table: u8, mode: Mode, seg: usize) -> Positions
@@ -171,9 +171,9 @@ fn main() {
     let entries = check_tables(Tally::new());
     let states = check_all_states(Tally::new().after(entries));
     let randomizing = check_all_randomizing(Tally::new().after(states));
-    entries.print(b"table entries");
-    states.print(b"first states");
-    randomizing.print(b"randomizing entries");
+    replay::print_tally(b"table entries", entries);
+    replay::print_tally(b"first states", states);
+    replay::print_tally(b"randomizing entries", randomizing);
     let all = entries.with(states).with(randomizing);
     replay::print_differences(all.differ);
 }

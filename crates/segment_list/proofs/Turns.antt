@@ -8,7 +8,7 @@ use native.Mathlib.Numerals.{add-one}
 use native.Mathlib.Omega.{arith}
 use lib.ListN.{length, getD, take}
 use lib.Seq.{slice, slice-empty, take-suc, drop-append-le, length-take-le}
-use Rattle.segment_list.specs.declared.Line.{Line}
+use Rattle.open_line.specs.declared.Line.{Line}
 use Rattle.segment_list.specs.Feed.{Takes, Feeds}
 use Rattle.segment_list.specs.Fed.{takes-none, takes-then}
 

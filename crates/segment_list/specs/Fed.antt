@@ -6,9 +6,10 @@ use mathlib.Core.Path.{_≡_, sym, ap, subst, _∙_}
 use borrow.Author.Tests.{eq-eqb, ne-eqb}
 use lib.ListN.{length, take, drop, take-append-drop}
 use lib.Seq.{slice, take-all, take-take}
-use Rattle.segment_list.specs.declared.Line.{Line}
-use Rattle.segment_list.specs.Text.{lineAnswer, printed, openAfter, lastAnswer, segmentsPrints}
-use Rattle.segment_list.specs.Gather.{Gathers}
+use Rattle.open_line.specs.declared.Line.{Line}
+use Rattle.segment_answer.specs.Answer.{lineAnswer, lastAnswer}
+use Rattle.segment_list.specs.Prints.{printed, openAfter, segmentsPrints}
+use Rattle.open_line.specs.Gather.{Gathers}
 use Rattle.text.specs.declared.Fit.{Fit}
 use Rattle.text.specs.declared.Fit.the-variants.{Cut}
 use Rattle.text.specs.Put.{Put, PutCut}

@@ -4,10 +4,10 @@ use Prim.Native.Nat.{ℕ, _+_, _≤_, _<_}
 use mathlib.Core.List.{List}
 use lib.ListN.{length}
 use lib.Seq.{slice}
-use Rattle.segment_list.specs.declared.Line.{Line}
+use Rattle.open_line.specs.declared.Line.{Line}
 use Rattle.segment_list.specs.declared.Fed.{Fed}
-use Rattle.segment_list.specs.Text.{printed, openAfter}
-use Rattle.segment_list.specs.Gather.{Gathers}
+use Rattle.segment_list.specs.Prints.{printed, openAfter}
+use Rattle.open_line.specs.Gather.{Gathers}
 use Rattle.text.specs.Put.{Put}
 
 -- whatever the line gathers before the bytes, line' gathers what is open after them

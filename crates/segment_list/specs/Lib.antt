@@ -1,8 +1,4 @@
-pub mod Text
-pub mod Question
-pub mod Laws
-pub mod Gather
-pub mod Gathered
+pub mod Prints
 pub mod Printed
 pub mod Feed
 pub mod Fed

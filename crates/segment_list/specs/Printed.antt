@@ -8,7 +8,8 @@ use borrow.Author.Tests.{ne-eqb}
 use lib.Dec.{eqb}
 use lib.ListN.{length, take, drop, take-append-drop}
 use Rattle.lists.specs.Lists.{joined}
-use Rattle.segment_list.specs.Text.{lineAnswer, printed, openAfter, lastAnswer, segmentsPrints, turnsPrint}
+use Rattle.segment_answer.specs.Answer.{lineAnswer, lastAnswer}
+use Rattle.segment_list.specs.Prints.{printed, openAfter, segmentsPrints, turnsPrint}
 
 pub open-pieces : (s xs ys : List ℕ) → openAfter s (xs ++ ys) ≡ openAfter (openAfter s xs) ys
 unfolding openAfter

@@ -3,13 +3,16 @@
 use Prim.Native.Nat.{ℕ}
 use Prim.Native.String.{String}
 use mathlib.Core.List.{List, [], _∷_, _++_}
-use mathlib.Core.Path.{_≡_, refl}
+use mathlib.Core.Path.{_≡_, refl, sym, _∙_}
+use native.Mathlib.Omega.{arith}
 use Rattle.frame.specs.Roles.{segmentRoles, placeRole}
 use Rattle.lists.specs.Lists.{joined}
 use Rattle.text.specs.Ascii.{ascii}
 use Rattle.text.specs.Decimal.{decimal}
-use Rattle.segment_list.specs.Text.{isQuestion, segmentLine, edgeLine, refusedLine, lineCode, listLines, lineAnswer, printed, openAfter, lastAnswer}
-use Rattle.segment_list.specs.Text.{segmentsPrints}
+use Rattle.question.specs.Question.{isQuestion, lineCode}
+use Rattle.segment_answer.specs.Answer.{segmentLine, edgeLine, refusedLine, listLines, lineAnswer, lastAnswer}
+use Rattle.segment_list.specs.Prints.{printed, openAfter, segmentsPrints}
+use Rattle.segment_list.specs.Printed.{feed-optional}
 
 -- lines, each with its line feed
 abbrev pub lines : List String → List ℕ
@@ -39,8 +42,8 @@ unfolding segmentsPrints printed openAfter lastAnswer lineAnswer lineCode isQues
 sample-fed = refl
 
 pub sample-unfed : segmentsPrints (ascii "1,0,CCCCCCCCCCCCC") ≡ sample
-unfolding segmentsPrints printed openAfter lastAnswer lineAnswer lineCode isQuestion listLines segmentLine edgeLine refusedLine segmentRoles placeRole decimal
-sample-unfed = refl
+unfolding openAfter
+sample-unfed = sym (feed-optional (ascii "1,0,CCCCCCCCCCCCC") (λ e. omega arith)) ∙ sample-fed
 
 -- the refusals: a line of another form, a mode and a phase that are none, and of two the first
 pub sample-refused :

@@ -14,7 +14,7 @@ ghost use Rattle.segments.specs.declared.Input.the-variants.{More};
 ghost use Rattle.segments.specs.Read.{readTold};
 use libc::STDIN_FILENO;
 use libc::STDOUT_FILENO;
-use segment_list::Line;
+use open_line::Line;
 
 // How it stands with the input: so many bytes were read, it has ended, or a read or a write failed.
 enum Input {
@@ -86,7 +86,7 @@ fn read_once(line: Line, buffer: &mut [u8], out: &mut [u8]) -> Turn
 fn answer_last(line: Line, out: &mut [u8])
     requires { ⌜ 512 ≤ length (now out) ⌝ }
 {
-    let n = segment_list::finish(line, out, 0);
+    let n = open_line::finish(line, out, 0);
     io::write_all(STDOUT_FILENO, &out[..n]);
 }
 

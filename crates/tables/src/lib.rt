@@ -8,7 +8,7 @@ ghost use mathlib.Core.Path.{_≡_};
 ghost use mathlib.Core.List.{[]};
 ghost use Prim.Native.Nat.{_<_, _≤_};
 ghost use lib.ListN.{length, getD};
-ghost use Rattle.tables.specs.Rows.{diffAc1, diffAc2, diffTmcc, cohAc1, cohTmcc, carrierRandomize};
+ghost use Rattle.tables.specs.Rows.{diffAc1, diffAc2, diffTmcc, cohTmcc, carrierRandomize};
 ghost use Rattle.tables.specs.Places.{Listed, tmccOf, ac1Of, ac2Of, initOf};
 ghost use Rattle.params.specs.Params.{dataCarriersPerSegment};
 ghost use Rattle.params.specs.declared.Mode.the-variants.{M1, M2, M3};
@@ -79,46 +79,25 @@ fn diff_tmcc_m3(row: usize) -> Positions
     copied(&standard::DIFF_TMCC_M3[row])
 }
 
-fn coh_ac1_m1(row: usize) -> Positions
-    requires { ⌜ row < 13 ⌝ }
-    ensures { λ r. ⌜ Listed r (getD (cohAc1 M1) row []) ⌝ }
-{
-    copied(&standard::COH_AC1_M1[row])
-}
-
-fn coh_ac1_m2(row: usize) -> Positions
-    requires { ⌜ row < 13 ⌝ }
-    ensures { λ r. ⌜ Listed r (getD (cohAc1 M2) row []) ⌝ }
-{
-    copied(&standard::COH_AC1_M2[row])
-}
-
-fn coh_ac1_m3(row: usize) -> Positions
-    requires { ⌜ row < 13 ⌝ }
-    ensures { λ r. ⌜ Listed r (getD (cohAc1 M3) row []) ⌝ }
-{
-    copied(&standard::COH_AC1_M3[row])
-}
-
-fn diff_ac1_m1(row: usize) -> Positions
+fn ac1_m1(row: usize) -> Positions
     requires { ⌜ row < 13 ⌝ }
     ensures { λ r. ⌜ Listed r (getD (diffAc1 M1) row []) ⌝ }
 {
-    copied(&standard::DIFF_AC1_M1[row])
+    copied(&standard::AC1_M1[row])
 }
 
-fn diff_ac1_m2(row: usize) -> Positions
+fn ac1_m2(row: usize) -> Positions
     requires { ⌜ row < 13 ⌝ }
     ensures { λ r. ⌜ Listed r (getD (diffAc1 M2) row []) ⌝ }
 {
-    copied(&standard::DIFF_AC1_M2[row])
+    copied(&standard::AC1_M2[row])
 }
 
-fn diff_ac1_m3(row: usize) -> Positions
+fn ac1_m3(row: usize) -> Positions
     requires { ⌜ row < 13 ⌝ }
     ensures { λ r. ⌜ Listed r (getD (diffAc1 M3) row []) ⌝ }
 {
-    copied(&standard::DIFF_AC1_M3[row])
+    copied(&standard::AC1_M3[row])
 }
 
 fn diff_ac2_m1(row: usize) -> Positions
@@ -161,22 +140,15 @@ pub fn tmcc_positions(mode: Mode, kind: SegmentKind, row: usize) -> Positions
     }
 }
 
-// AC1 places of a segment.
+// AC1 places of a segment, the same in both kinds.
 pub fn ac1_positions(mode: Mode, kind: SegmentKind, row: usize) -> Positions
     requires { ⌜ row < 13 ⌝ }
     ensures { λ r. ⌜ Listed r (ac1Of mode kind row) ⌝ }
 {
-    match kind {
-        SegmentKind::Coherent => match mode {
-            Mode::M1 => coh_ac1_m1(row),
-            Mode::M2 => coh_ac1_m2(row),
-            Mode::M3 => coh_ac1_m3(row),
-        },
-        SegmentKind::Differential => match mode {
-            Mode::M1 => diff_ac1_m1(row),
-            Mode::M2 => diff_ac1_m2(row),
-            Mode::M3 => diff_ac1_m3(row),
-        },
+    match mode {
+        Mode::M1 => ac1_m1(row),
+        Mode::M2 => ac1_m2(row),
+        Mode::M3 => ac1_m3(row),
     }
 }
 

@@ -688,9 +688,9 @@ pub const CARRIER_RANDOMIZE_M3: [u16; 384] = [
     51,
 ];
 
-// Table 3-14 (a): AC1 carriers, differential segments, Mode 1.
+// Tables 3-14 (a) and 3-15 (a), the same in both: AC1 carriers, Mode 1.
 // Indexed by segment number 0..=12; positions in table row order.
-pub const DIFF_AC1_M1: [[u16; 2]; 13] = [
+pub const AC1_M1: [[u16; 2]; 13] = [
     [35, 79],
     [74, 100],
     [76, 97],
@@ -742,9 +742,9 @@ pub const DIFF_TMCC_M1: [[u16; 5]; 13] = [
     [23, 37, 51, 68, 105],
 ];
 
-// Table 3-14 (b): AC1 carriers, differential segments, Mode 2.
+// Tables 3-14 (b) and 3-15 (b), the same in both: AC1 carriers, Mode 2.
 // Indexed by segment number 0..=12; positions in table row order.
-pub const DIFF_AC1_M2: [[u16; 4]; 13] = [
+pub const AC1_M2: [[u16; 4]; 13] = [
     [98, 101, 118, 136],
     [8, 64, 115, 197],
     [53, 83, 169, 208],
@@ -796,9 +796,9 @@ pub const DIFF_TMCC_M2: [[u16; 10]; 13] = [
     [34, 48, 54, 70, 101, 131, 145, 159, 176, 213],
 ];
 
-// Table 3-14 (c): AC1 carriers, differential segments, Mode 3.
+// Tables 3-14 (c) and 3-15 (c), the same in both: AC1 carriers, Mode 3.
 // Indexed by segment number 0..=12; positions in table row order.
-pub const DIFF_AC1_M3: [[u16; 8]; 13] = [
+pub const AC1_M3: [[u16; 8]; 13] = [
     [7, 89, 206, 209, 226, 244, 377, 407],
     [76, 97, 112, 197, 256, 305, 332, 388],
     [61, 100, 119, 209, 236, 256, 398, 424],
@@ -1383,24 +1383,6 @@ pub const DIFF_TMCC_M3: [[u16; 20]; 13] = [
     ],
 ];
 
-// Table 3-15 (a): AC1 carriers, coherent segments, Mode 1.
-// Indexed by segment number 0..=12; positions in table row order.
-pub const COH_AC1_M1: [[u16; 2]; 13] = [
-    [35, 79],
-    [74, 100],
-    [76, 97],
-    [20, 40],
-    [4, 89],
-    [11, 101],
-    [40, 89],
-    [61, 100],
-    [8, 64],
-    [53, 83],
-    [7, 89],
-    [10, 28],
-    [98, 101],
-];
-
 // Table 3-15 (a): TMCC carriers, coherent segments, Mode 1.
 // Indexed by segment number 0..=12; positions in table row order.
 pub const COH_TMCC_M1: [[u16; 1]; 13] = [
@@ -1419,24 +1401,6 @@ pub const COH_TMCC_M1: [[u16; 1]; 13] = [
     [23],
 ];
 
-// Table 3-15 (b): AC1 carriers, coherent segments, Mode 2.
-// Indexed by segment number 0..=12; positions in table row order.
-pub const COH_AC1_M2: [[u16; 4]; 13] = [
-    [98, 101, 118, 136],
-    [8, 64, 115, 197],
-    [53, 83, 169, 208],
-    [4, 89, 148, 197],
-    [11, 101, 128, 148],
-    [35, 79, 184, 205],
-    [74, 100, 143, 187],
-    [20, 40, 182, 208],
-    [76, 97, 112, 197],
-    [61, 100, 119, 209],
-    [40, 89, 116, 172],
-    [10, 28, 161, 191],
-    [7, 89, 206, 209],
-];
-
 // Table 3-15 (b): TMCC carriers, coherent segments, Mode 2.
 // Indexed by segment number 0..=12; positions in table row order.
 pub const COH_TMCC_M2: [[u16; 2]; 13] = [
@@ -1453,24 +1417,6 @@ pub const COH_TMCC_M2: [[u16; 2]; 13] = [
     [61, 193],
     [70, 133],
     [101, 131],
-];
-
-// Table 3-15 (c): AC1 carriers, coherent segments, Mode 3.
-// Indexed by segment number 0..=12; positions in table row order.
-pub const COH_AC1_M3: [[u16; 8]; 13] = [
-    [7, 89, 206, 209, 226, 244, 377, 407],
-    [76, 97, 112, 197, 256, 305, 332, 388],
-    [61, 100, 119, 209, 236, 256, 398, 424],
-    [11, 101, 128, 148, 290, 316, 359, 403],
-    [35, 79, 184, 205, 220, 305, 364, 413],
-    [98, 101, 118, 136, 269, 299, 385, 424],
-    [8, 64, 115, 197, 314, 317, 334, 352],
-    [4, 89, 148, 197, 224, 280, 331, 413],
-    [53, 83, 169, 208, 227, 317, 344, 364],
-    [20, 40, 182, 208, 251, 295, 400, 421],
-    [74, 100, 143, 187, 292, 313, 328, 413],
-    [10, 28, 161, 191, 277, 316, 335, 425],
-    [40, 89, 116, 172, 223, 305, 422, 425],
 ];
 
 // Table 3-15 (c): TMCC carriers, coherent segments, Mode 3.

@@ -7,8 +7,8 @@ use mathlib.Core.Path.{_≡_, refl, sym, ap, subst, _∙_}
 use native.Mathlib.Omega.{arith}
 use borrow.Author.Tests.{leb-true, leb-false, le-leb, lt-leb}
 use lib.Dec.{leb}
-use lib.ListN.{length, take, length-append}
-use lib.Seq.{sets, sets-eq, length-sets, take-all, take-at, take-append-le, take-append-add}
+use lib.ListN.{length, take, length-append, length-take}
+use lib.Seq.{sets, sets-eq, length-sets, take-all, take-at, take-take, take-append-le, take-append-add}
 use Rattle.lists.specs.Fill.{sets-append}
 use Rattle.text.specs.declared.Fit.{Fit}
 use Rattle.text.specs.declared.Fit.the-variants.{Whole, Cut}
@@ -42,7 +42,7 @@ cut-fit end room e = by (leb end room) refl e
     by true l e = absurd (let z : _≡_ {A = ℕ} 0 1 = cc in omega arith)
     by false l e = leb-false end room l
 
-pub fit-cut : (end room : ℕ) → room < end → Cut ≡ fitOf end room
+fit-cut : (end room : ℕ) → room < end → Cut ≡ fitOf end room
 unfolding fitOf
 fit-cut end room h = rw (lt-leb end room h)
 
@@ -60,6 +60,14 @@ whole-fit r end room e = by (leb end room) refl e
 
 pub cut-as : {out end s t : List ℕ} {at : ℕ} {r : Fit} → t ≡ s → PutCut out at s r end → PutCut out at t r end
 cut-as {out} {end} {s} {t} {at} {r} e p = subst (λ (l : List ℕ). PutCut out at l r end) (sym e) p
+
+-- the front of a text that is too long
+pub front-cut : {out out' : List ℕ} {at r : ℕ} (text : List ℕ) (n : ℕ) → Put out at (take (length out - at) text) r out' → at ≤ length out → length out - at < n
+    → n ≤ length text → PutCut out at (take n text) Cut out'
+front-cut {out} {out'} {at} text n p l h m = record {
+  fit = fit-cut _ _ (simp length-take (omega arith));
+  stored = p .stored ∙ ap (sets out at) (sym (take-take (length out - at) n text (omega arith)));
+}
 
 -- text with room for all of it
 pub whole-cut : {out out' text : List ℕ} {at r : ℕ} → Put out at text r out' → r ≤ length out → PutCut out at text (Whole r) out'

@@ -1,4 +1,5 @@
 pub mod Decimal
+pub mod Digits
 pub mod Put
 pub mod Laws
 pub mod Ascii

@@ -7,10 +7,12 @@ use native.Mathlib.Omega.{arith}
 use borrow.Author.Needs.{needs}
 use lib.Ieee.{Float}
 use Rattle.lists.specs.Lists.{range}
-use Rattle.guess.specs.Samples.{fftOf}
-use Rattle.guess.specs.Guess.{lagsIn, offered, scan}
-use Rattle.guess.specs.Inner.{Holds, searchOf}
-use Rattle.guess.proofs.Known.{some, Bounded, bounded}
+use Rattle.samples_needed.specs.Samples.{fftOf}
+use Rattle.correlation.specs.Correlation.{lagsIn}
+use Rattle.correlation.specs.Inner.{Holds}
+use Rattle.guess.specs.Guess.{offered, scan}
+use Rattle.guess.specs.Inner.{searchOf}
+use Rattle.samples_needed.specs.Sizes.{some, Bounded, bounded}
 use Rattle.guess.proofs.Searching.{none, next-number, too-short, all-offsets, next-offset}
 use Rattle.guess.proofs.try_guard.Statement.{statement}
 use Rattle.guess.proofs.try_guard.Tie as tie

@@ -6,7 +6,7 @@ use native.Mathlib.Omega.{arith}
 use borrow.Author.Needs.{needs}
 use lib.ListN.{length, take, getD}
 use Rattle.lists.specs.Tests.{allIn-at}
-use Rattle.guess.specs.Samples.{isGuard}
+use Rattle.samples_needed.specs.Samples.{isGuard}
 use Rattle.guess.specs.Guess.{scan, triedGuard}
 use Rattle.guess.specs.Inner.{searchOf}
 use Rattle.guess.proofs.Searching.{none, next-entry, next-guard, too-few, all-guards}

@@ -6,7 +6,7 @@ use native.Mathlib.Nat.{mod-lt, div-le-self}
 use native.Mathlib.Numerals.{add-one}
 use native.Mathlib.Omega.{arith}
 use lib.Ieee.{nearest}
-use Rattle.ieee.proofs.Narrowing.{compare-lt, compare-eq, compare-gt}
+use Rattle.ieee.specs.Narrowing.{compare-lt, compare-eq, compare-gt}
 use borrow.Author.Needs.{needs}
 use Rattle.ieee.proofs.closest.Statement.{statement}
 use Rattle.ieee.proofs.closest.Tie as tie

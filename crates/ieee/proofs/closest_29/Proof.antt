@@ -1,6 +1,6 @@
 -- `ieee::closest_29` meets its contract: what is added carries into the quotient exactly where m is rounded up.
 -- Assumes nothing.
-use Rattle.ieee.proofs.Narrowing.{closest-29}
+use Rattle.ieee.specs.Narrowing.{closest-29}
 use borrow.Author.Needs.{needs}
 use Rattle.ieee.proofs.closest_29.Statement.{statement}
 use Rattle.ieee.proofs.closest_29.Tie as tie

@@ -11,7 +11,7 @@ use lib.Ieee.Bits.{ofBits-toBits, toBits-lt}
 use lib.Ieee.Compare.{differs-from-itself}
 use Rattle.ieee.specs.Narrow.{narrowOf}
 use Rattle.ieee.specs.Order.{no-nan}
-use Rattle.ieee.proofs.Cases.{no-nan-bits, bits-in}
+use Rattle.ieee.specs.Patterns.{no-nan-bits, bits-in}
 use borrow.Author.Needs.{needs}
 use Rattle.ieee.proofs.narrow.Statement.{statement}
 use Rattle.ieee.proofs.narrow.Tie as tie

@@ -1,4 +1,4 @@
--- `ieee::narrow_bits` meets its contract: each way out is a law of `proofs/Narrowing.antt`.
+-- `ieee::narrow_bits` meets its contract: each way out is a law of `specs/Narrowing.antt`.
 -- Assumes nothing.
 use mathlib.Core.Path.{sym, ap, _∙_, subst}
 use Prim.Native.Nat.{ℕ, _+_, _-_, _*_, _/_, _%_, _<_}
@@ -6,7 +6,7 @@ use native.Mathlib.Omega.{arith}
 use lib.Pow.{pow-pos, pow-lt}
 use lib.Ieee.Nearest.{closest}
 use Rattle.ieee.specs.Inner.{Narrowed}
-use Rattle.ieee.proofs.Narrowing.{narrow-zero, narrow-over, narrow-sub, narrow-normal}
+use Rattle.ieee.specs.Narrowing.{narrow-zero, narrow-over, narrow-sub, narrow-normal}
 use borrow.Author.Needs.{needs}
 use Rattle.ieee.proofs.narrow_bits.Statement.{statement}
 use Rattle.ieee.proofs.narrow_bits.Tie as tie
@@ -16,7 +16,7 @@ sub-way c =
     let b = c .before .before .before .before .before .args .b in
     subst (λ (q : ℕ). Narrowed b q)
     (sym (c .closest .ensures ∙ ap (λ (p : ℕ). closest (b % 4503599627370496 + 4503599627370496) p) (c .before .power .ensures)))
-    (narrow-sub b (c .before .before .before .before .if1 .left) (c .before .before .if3 .taken))
+    (narrow-sub b (omega (arith, c .before .before .before .before .if1 .left)) (c .before .before .if3 .taken))
 
 normal-way : (c : tie.After-closest-29)
     → (let b = c .before .before .before .before .args .b in Narrowed b ((b / 4503599627370496 - 897) * 8388608 + c .closest-29 .result))

@@ -5,8 +5,8 @@ use mathlib.Core.List.{[]}
 use mathlib.Core.Path.{_≡_, refl, sym, _∙_}
 use native.Mathlib.Omega.{arith}
 use lib.ListN.{length, take, length-take}
-use Rattle.segment_list.specs.Gather.{Gathers}
-use Rattle.segment_list.specs.Gathered.{gathers-new, last-held}
+use Rattle.open_line.specs.Gather.{Gathers}
+use Rattle.open_line.specs.Gathered.{gathers-new, last-held}
 use Rattle.segment_list.specs.Feed.{Takes}
 use Rattle.segment_list.specs.Fed.{takes-none, takes-slice, takes-copied, takes-cut, takes-whole, takes-all}
 use Rattle.text.specs.Laws.{put-read, cut-as, cut-whole}
@@ -30,14 +30,8 @@ loop-holds c = (refl, refl, omega arith, omega arith, takes-none _ _ _)
 feed-requires : tie.Need-feed-requires Inv-loop μ-loop
 feed-requires c κs = search needs
 
-slice-reshare-prefix-put-cut : tie.Need-slice-reshare-prefix-put-cut Inv-loop μ-loop
-slice-reshare-prefix-put-cut c = omega (arith, c .before .before .before .feed .ensures .room (omega arith))
-
-slice-aggregate-put-cut : tie.Need-slice-aggregate-put-cut Inv-loop μ-loop
-slice-aggregate-put-cut c = simp length-take (omega (arith, c .before .before .before .before .feed .ensures .room (omega arith)))
-
 put-cut-requires : tie.Need-put-cut-requires Inv-loop μ-loop
-put-cut-requires c κs = omega arith
+put-cut-requires c κs = (omega arith, omega (arith, c .before .before .before .before .feed .ensures .room (omega arith)))
 
 enum-known-next : tie.Need-enum-known-next Inv-loop μ-loop
 enum-known-next c = search needs
@@ -89,14 +83,8 @@ loop-again c =
 finish-requires : tie.Need-finish-requires Inv-loop μ-loop
 finish-requires c κs = omega arith
 
-slice-reshare-prefix-put-cut-2 : tie.Need-slice-reshare-prefix-put-cut-2 Inv-loop μ-loop
-slice-reshare-prefix-put-cut-2 c = omega (arith, c .before .before .before .finish .ensures .1)
-
-slice-aggregate-put-cut-2 : tie.Need-slice-aggregate-put-cut-2 Inv-loop μ-loop
-slice-aggregate-put-cut-2 c = simp length-take (omega (arith, c .before .before .before .before .finish .ensures .1))
-
 put-cut-requires-2 : tie.Need-put-cut-requires-2 Inv-loop μ-loop
-put-cut-requires-2 c κs = omega arith
+put-cut-requires-2 c κs = (omega arith, omega (arith, c .before .before .before .before .finish .ensures .1))
 
 same-length-3 : tie.Need-same-length-3 Inv-loop μ-loop
 same-length-3 c = omega arith
@@ -125,8 +113,6 @@ answer-pieces-spec =
     new-requires
     loop-holds
     feed-requires
-    slice-reshare-prefix-put-cut
-    slice-aggregate-put-cut
     put-cut-requires
     enum-known-next
     enum-told
@@ -136,8 +122,6 @@ answer-pieces-spec =
     loop-less
     loop-again
     finish-requires
-    slice-reshare-prefix-put-cut-2
-    slice-aggregate-put-cut-2
     put-cut-requires-2
     same-length-3
     same-length-4

@@ -1,7 +1,7 @@
 -- `segment_list::take_byte` meets its contract: a line feed has the line answered, any other byte is gathered.
 -- Assumes nothing.
 use native.Mathlib.Omega.{arith}
-use Rattle.segment_list.specs.Gathered.{gathers-new, gathers-pushed, answer-held}
+use Rattle.open_line.specs.Gathered.{gathers-new, gathers-pushed, answer-held}
 use Rattle.segment_list.specs.Fed.{takes-feed, takes-byte}
 use Rattle.text.specs.Laws.{put-as}
 use borrow.Author.Needs.{needs}

@@ -1,90 +1,63 @@
--- `tables::ac1_positions` meets its contract: each pair of arms reads the table of its kind and mode.
+-- `tables::ac1_positions` meets its contract: the two kinds have the same places, and each arm reads the table of its mode.
 -- Assumes nothing.
+use Prim.Native.Nat.{ℕ}
+use mathlib.Core.List.{[]}
+use mathlib.Core.Path.{_≡_, refl}
 use borrow.Author.Needs.{needs}
+use lib.ListN.{getD}
+use Rattle.params.specs.declared.Mode.{Mode}
+use Rattle.params.specs.declared.Mode.the-variants.{M1, M2, M3}
+use Rattle.params.specs.declared.SegmentKind.{SegmentKind}
+use Rattle.params.specs.declared.SegmentKind.the-variants.{Coherent, Differential}
+use Rattle.tables.specs.Rows.{diffAc1}
+use Rattle.tables.specs.Places.{ac1Of}
 use Rattle.tables.proofs.ac1_positions.Statement.{statement}
 use Rattle.tables.proofs.ac1_positions.Tie as tie
+
+-- Tables 3-14 and 3-15 print the same AC1 carriers
+of-either : (mode : Mode) (kind : SegmentKind) (row : ℕ) → ac1Of mode kind row ≡ getD (diffAc1 mode) row []
+of-either M1 Coherent row = refl
+of-either M2 Coherent row = refl
+of-either M3 Coherent row = refl
+of-either mode Differential row = refl
 
 enum-told : tie.Need-enum-told
 enum-told c = search needs
 
+ac1-m1-requires : tie.Need-ac1-m1-requires
+ac1-m1-requires c κs = search needs
+
 enum-told-2 : tie.Need-enum-told-2
 enum-told-2 c = search needs
 
-coh-ac1-m1-requires : tie.Need-coh-ac1-m1-requires
-coh-ac1-m1-requires c κs = search needs
+ac1-m2-requires : tie.Need-ac1-m2-requires
+ac1-m2-requires c κs = search needs
 
 enum-told-3 : tie.Need-enum-told-3
 enum-told-3 c = search needs
 
-coh-ac1-m2-requires : tie.Need-coh-ac1-m2-requires
-coh-ac1-m2-requires c κs = search needs
-
-enum-told-4 : tie.Need-enum-told-4
-enum-told-4 c = search needs
-
-coh-ac1-m3-requires : tie.Need-coh-ac1-m3-requires
-coh-ac1-m3-requires c κs = search needs
-
-enum-told-5 : tie.Need-enum-told-5
-enum-told-5 c = search needs
-
-enum-told-6 : tie.Need-enum-told-6
-enum-told-6 c = search needs
-
-diff-ac1-m1-requires : tie.Need-diff-ac1-m1-requires
-diff-ac1-m1-requires c κs = search needs
-
-enum-told-7 : tie.Need-enum-told-7
-enum-told-7 c = search needs
-
-diff-ac1-m2-requires : tie.Need-diff-ac1-m2-requires
-diff-ac1-m2-requires c κs = search needs
-
-enum-told-8 : tie.Need-enum-told-8
-enum-told-8 c = search needs
-
-diff-ac1-m3-requires : tie.Need-diff-ac1-m3-requires
-diff-ac1-m3-requires c κs = search needs
+ac1-m3-requires : tie.Need-ac1-m3-requires
+ac1-m3-requires c κs = search needs
 
 returns : tie.Need-returns
-returns c = rw (c .before .before .before .enum-told .given .1, c .before .enum-told2 .given .1) (c .coh-ac1-m1 .ensures)
+returns c = rw (of-either _ _ _, c .before .enum-told .given .1) (c .ac1-m1 .ensures)
 
 returns-2 : tie.Need-returns-2
-returns-2 c = rw (c .before .before .before .enum-told .given .1, c .before .enum-told3 .given .1) (c .coh-ac1-m2 .ensures)
+returns-2 c = rw (of-either _ _ _, c .before .enum-told2 .given .1) (c .ac1-m2 .ensures)
 
 returns-3 : tie.Need-returns-3
-returns-3 c = rw (c .before .before .before .enum-told .given .1, c .before .enum-told4 .given .1) (c .coh-ac1-m3 .ensures)
-
-returns-4 : tie.Need-returns-4
-returns-4 c = rw (c .before .before .before .enum-told5 .given .1, c .before .enum-told6 .given .1) (c .diff-ac1-m1 .ensures)
-
-returns-5 : tie.Need-returns-5
-returns-5 c = rw (c .before .before .before .enum-told5 .given .1, c .before .enum-told7 .given .1) (c .diff-ac1-m2 .ensures)
-
-returns-6 : tie.Need-returns-6
-returns-6 c = rw (c .before .before .before .enum-told5 .given .1, c .before .enum-told8 .given .1) (c .diff-ac1-m3 .ensures)
+returns-3 c = rw (of-either _ _ _, c .before .enum-told3 .given .1) (c .ac1-m3 .ensures)
 
 pub ac1-positions-spec : {M : Type 1} → statement M
 ac1-positions-spec =
     tie.close
     (tie.spec
     enum-told
+    ac1-m1-requires
     enum-told-2
-    coh-ac1-m1-requires
+    ac1-m2-requires
     enum-told-3
-    coh-ac1-m2-requires
-    enum-told-4
-    coh-ac1-m3-requires
-    enum-told-5
-    enum-told-6
-    diff-ac1-m1-requires
-    enum-told-7
-    diff-ac1-m2-requires
-    enum-told-8
-    diff-ac1-m3-requires
+    ac1-m3-requires
     returns
     returns-2
-    returns-3
-    returns-4
-    returns-5
-    returns-6)
+    returns-3)

@@ -2,7 +2,7 @@
 -- Assumes nothing.
 use native.Mathlib.Omega.{arith}
 use lib.ListN.{length-take}
-use Rattle.text.specs.Laws.{fit-cut, whole-cut}
+use Rattle.text.specs.Laws.{front-cut, whole-cut}
 use borrow.Author.Needs.{needs}
 use Rattle.text.proofs.put_cut.Statement.{statement}
 use Rattle.text.proofs.put_cut.Tie as tie
@@ -20,16 +20,24 @@ same-length : tie.Need-same-length
 same-length c = search needs
 
 returns : tie.Need-returns
-returns c = record { fit = fit-cut _ _ (omega arith); stored = c .before .before .put-text .ensures .stored }
+returns c =
+    let p = c .before .before in
+    let start = p .before .before .before .before .before .before in
+    front-cut (start .args .text .now) (start .args .n) (p .put-text .ensures) (omega arith) (omega arith) (omega arith)
+
+slice-aggregate-put-text-2 : tie.Need-slice-aggregate-put-text-2
+slice-aggregate-put-text-2 c = simp length-take (omega arith)
 
 put-text-requires-2 : tie.Need-put-text-requires-2
-put-text-requires-2 c κs = search needs
+put-text-requires-2 c κs = simp length-take (omega arith)
 
 same-length-2 : tie.Need-same-length-2
 same-length-2 c = search needs
 
 returns-2 : tie.Need-returns-2
-returns-2 c = whole-cut (c .before .before .put-text2 .ensures) (omega (arith, c .before .before .put-text2 .ensures .next))
+returns-2 c =
+    let p = c .before .before .put-text2 .ensures in
+    whole-cut p (omega (arith, simp length-take at (p .next)))
 
 pub put-cut-spec : {M : Type 1} → statement M
 put-cut-spec =
@@ -40,6 +48,7 @@ put-cut-spec =
     put-text-requires
     same-length
     returns
+    slice-aggregate-put-text-2
     put-text-requires-2
     same-length-2
     returns-2)

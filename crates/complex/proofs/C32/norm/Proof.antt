@@ -2,7 +2,7 @@
 -- Assumes nothing.
 use mathlib.Core.Path.{ap, _∙_}
 use lib.Ieee.{Float}
-use Rattle.ieee.specs.Root.{rootOf}
+use Rattle.root.specs.Root.{rootOf}
 use Rattle.ieee.specs.Narrow.{narrowOf}
 use Rattle.complex.specs.Complex.{norm64, norm32}
 use borrow.Author.Needs.{needs}

@@ -1,7 +1,7 @@
 -- `complex::C64::norm` meets its contract: it is the definition, call for call.
 -- Assumes nothing.
 use mathlib.Core.Path.{_∙_, ap}
-use Rattle.ieee.specs.Root.{rootOf}
+use Rattle.root.specs.Root.{rootOf}
 use Rattle.complex.specs.Complex.{norm64}
 use borrow.Author.Needs.{needs}
 use Rattle.complex.proofs.C64.norm.Statement.{statement}

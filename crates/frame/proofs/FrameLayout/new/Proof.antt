@@ -1,8 +1,7 @@
 -- `frame::FrameLayout::new` meets its contract: each return is the case of the definition that the tests on the way decide.
 -- Assumes nothing.
 use mathlib.Core.Path.{sym, _∙_}
-use borrow.Author.Tests.{not-true, not-false}
-use Rattle.frame.proofs.Copied.{bad-mode, bad-kinds, accepted}
+use Rattle.frame.proofs.Copied.{bad-mode, by-kinds}
 use borrow.Author.Needs.{needs}
 use Rattle.frame.proofs.FrameLayout.new.Statement.{statement}
 use Rattle.frame.proofs.FrameLayout.new.Tie as tie
@@ -24,15 +23,9 @@ read-kinds-requires c κs = search needs
 
 returns-2 : tie.Need-returns-2
 returns-2 c =
-    let r = c .before .before .before in
+    let r = c .before in
     let known = r .before .before in
-    bad-kinds _ _ _ _ _ (sym (known .before .before .from-number .ensures) ∙ known .m .given .1) (r .read-kinds .ensures) (not-true _ (c .if1 .taken))
-
-returns-3 : tie.Need-returns-3
-returns-3 c =
-    let r = c .before .before .before in
-    let known = r .before .before in
-    accepted _ _ _ _ _ (sym (known .before .before .from-number .ensures) ∙ known .m .given .1) (r .read-kinds .ensures) (not-false _ (c .if1 .left))
+    by-kinds _ _ _ _ _ (sym (known .before .before .from-number .ensures) ∙ known .m .given .1) (r .read-kinds .ensures)
 
 pub new-spec : {M : Type 1} → statement M
 new-spec =
@@ -43,5 +36,4 @@ new-spec =
     enum-told
     returns
     read-kinds-requires
-    returns-2
-    returns-3)
+    returns-2)

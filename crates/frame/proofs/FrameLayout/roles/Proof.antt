@@ -32,11 +32,9 @@ module _ (mode : Mode) (phase : ℕ) (kinds : List ℕ) where
       → part ≡ segmentRoles mode phase (ofdmSegment seg kind) → part ≡ rolesOf (segmentAt place)
   of-segment place seg kind part s k p = p ∙ (rw (k, s))
 
-  whole : (out : List ℕ) (edge : ℕ) → edge ≡ roleByte EdgeCp → out ≡ joined rolesOf order ++ (edge ∷ []) → out ≡ bandRoles mode phase (wide kinds)
+  whole : (out : List ℕ) → out ≡ joined rolesOf order ++ (roleByte EdgeCp ∷ []) → out ≡ bandRoles mode phase (wide kinds)
   unfolding bandRoles
-  whole out edge e o =
-      o ∙ (ap (λ (v : ℕ). joined rolesOf order ++ (v ∷ [])) e
-      ∙ ap (λ (z : List ℕ). z ++ (roleByte EdgeCp ∷ [])) (sym (joined-map (segmentRoles mode phase) (wideSegment kinds) order)))
+  whole out o = o ∙ ap (λ (z : List ℕ). z ++ (roleByte EdgeCp ∷ [])) (sym (joined-map (segmentRoles mode phase) (wideSegment kinds) order))
 
 abbrev Inv-loop : tie.InvT-loop
 Inv-loop self phase out₀ mode c place₀ out place =
@@ -109,23 +107,19 @@ loop-again c =
 first-carrier-requires-2 : tie.Need-first-carrier-requires-2 Inv-loop μ-loop
 first-carrier-requires-2 c κs = search needs
 
-byte-requires : tie.Need-byte-requires Inv-loop μ-loop
-byte-requires c κs = search needs
-
 slice-write-out : tie.Need-slice-write-out Inv-loop μ-loop
 slice-write-out c =
-    let w = c .before .before .before .loop .inv in
-    omega (arith, edge-inside _ _ _ _ _ _ _ w _ (c .before .first-carrier2 .ensures), w .same-size)
+    let w = c .before .before .loop .inv in
+    omega (arith, edge-inside _ _ _ _ _ _ _ w _ (c .first-carrier2 .ensures), w .same-size)
 
 same-length : tie.Need-same-length Inv-loop μ-loop
-same-length c = simp length-set (c .before .before .before .loop .inv .same-size)
+same-length c = simp length-set (c .before .before .loop .inv .same-size)
 
 returns : tie.Need-returns Inv-loop μ-loop
 returns c =
-    let f = c .before in
-    let l = f .before .before in
-    whole _ _ (l .before .before .before .args .self .kinds) _ _ (c .byte .ensures)
-    (finish _ _ _ _ _ _ _ (l .loop .inv) _ (f .first-carrier2 .ensures) _ (f .before .loop-test .left))
+    let l = c .before .before in
+    whole _ _ (l .before .before .before .args .self .kinds) _
+    (finish _ _ _ _ _ _ _ (l .loop .inv) _ (c .first-carrier2 .ensures) _ (c .before .loop-test .left))
 
 pub roles-spec : {M : Type 1} → statement M
 roles-spec =
@@ -147,7 +141,6 @@ roles-spec =
     loop-less
     loop-again
     first-carrier-requires-2
-    byte-requires
     slice-write-out
     same-length
     returns)

@@ -1,0 +1,5 @@
+pub mod Ballots
+pub mod Inner
+pub mod Pilots
+pub mod Changed
+pub mod Facts

@@ -1,0 +1,4 @@
+pub mod Correlation
+pub mod Inner
+pub mod Windows
+pub mod Held

@@ -1,0 +1,4 @@
+pub mod Window
+pub mod Inner
+pub mod Reaching
+pub mod Summing

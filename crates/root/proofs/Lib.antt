@@ -1,0 +1,5 @@
+pub mod Halving
+pub mod RootTable
+pub mod Finished
+pub mod Cases
+pub mod Guessed

@@ -1,0 +1,10 @@
+pub mod Root
+pub mod Inner
+pub mod WholeRoot
+pub mod RootUnits
+pub mod RootNear
+pub mod RootBest
+pub mod RootShift
+pub mod Nearest
+pub mod RootGain
+pub mod Worked

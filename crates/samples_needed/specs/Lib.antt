@@ -1,0 +1,4 @@
+pub mod Samples
+pub mod Inner
+pub mod Sizes
+pub mod Facts

@@ -1,0 +1,3 @@
+pub mod Winner
+pub mod Inner
+pub mod Facts
