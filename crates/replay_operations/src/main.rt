@@ -321,7 +321,7 @@ fn norm64(a: f64, b: f64, tally: Tally) -> Tally {
     check_double(host::sillurwy_norm64(a, b), tally)
 }
 
-// Makes the call of a function of floats: a and b are the wide numbers.
+// Calls it by its number: a and b are the wide numbers.
 fn check_value(operation: u8, floats: &[f32], a: f64, b: f64, tally: Tally) -> Tally {
     match operation {
         13 => root(a, tally),
@@ -363,14 +363,8 @@ fn check_lent(operation: u8, call: Call, bytes: &[u8], more_bytes: &[u8], floats
 // The first operation that is a function of floats.
 const VALUES: u8 = 13;
 
-// Behind the lists stand the wide numbers, which only the functions of floats have.
-fn check_longs(head: &[u8; 22], bytes: &[u8], more_bytes: &[u8], floats: &[f32]) -> Tally {
-    let Longs::Numbers(a, b) = replay::read_longs(short_size(head[21])) else {
-        return broken();
-    };
-    if head[0] < VALUES {
-        return check_lent(head[0], call_of(head), bytes, more_bytes, floats);
-    }
+// Makes the call of a function of floats, of which the head has the number and the code.
+fn check_wide(head: &[u8; 22], floats: &[f32], a: u64, b: u64) -> Tally {
     let tally = Tally::new().expect(head[1] == 0);
     check_value(
         head[0],
@@ -379,6 +373,17 @@ fn check_longs(head: &[u8; 22], bytes: &[u8], more_bytes: &[u8], floats: &[f32])
         replay::float_of(b),
         tally,
     )
+}
+
+// Behind the lists stand the wide numbers, which only the functions of floats have.
+fn check_longs(head: &[u8; 22], bytes: &[u8], more_bytes: &[u8], floats: &[f32]) -> Tally {
+    let Longs::Numbers(a, b) = replay::read_longs(short_size(head[21])) else {
+        return broken();
+    };
+    if VALUES <= head[0] {
+        return check_wide(head, floats, a, b);
+    }
+    check_lent(head[0], call_of(head), bytes, more_bytes, floats)
 }
 
 // The lists follow the head: two of bytes (kinds, or modes and guards), and the floats, which have one
@@ -479,8 +484,10 @@ fn run(counts: &mut [u64; 99]) {
     }
 }
 
-fn print_count(n: u64, words: &[u8]) {
-    io::print_decimal(STDOUT_FILENO, n);
+fn print_count(counts: &[u64; 99], at: usize, words: &[u8])
+    requires { ⌜ at < 99 ⌝ }
+{
+    io::print_decimal(STDOUT_FILENO, counts[at]);
     io::write_all(STDOUT_FILENO, words);
 }
 
@@ -488,9 +495,9 @@ fn print_count(n: u64, words: &[u8]) {
 fn print_counts(i: usize, counts: &[u64; 99])
     requires { ⌜ i ≤ 32 ⌝ }
 {
-    print_count(counts[3 * i], b" calls, ");
-    print_count(counts[3 * i + 1], b" entries compared, ");
-    print_count(counts[3 * i + 2], b" differ\n");
+    print_count(counts, 3 * i, b" calls, ");
+    print_count(counts, 3 * i + 1, b" entries compared, ");
+    print_count(counts, 3 * i + 2, b" differ\n");
 }
 
 // A name has 16 bytes, of which the last ones are spaces.
@@ -529,15 +536,18 @@ fn print_operations(counts: &[u64; 99]) {
                   narrow          \
                   norm32          \
                   norm64          ";
-    print_lines(short_size(OPERATIONS), names, counts);
+    print_lines(OPERATIONS as usize, names, counts);
+}
+
+fn print_all(counts: &[u64; 99]) {
+    io::write_all(STDOUT_FILENO, b"records ");
+    print_count(counts, 0, b"\n");
+    print_operations(counts);
+    print_count(counts, 2, b" differences\n");
 }
 
 fn main() {
     let mut counts = [0u64; 99];
     run(&mut counts);
-    io::write_all(STDOUT_FILENO, b"records ");
-    io::print_decimal(STDOUT_FILENO, counts[0]);
-    io::write_all(STDOUT_FILENO, b"\n");
-    print_operations(&counts);
-    replay::print_differences(counts[2]);
+    print_all(&counts);
 }

@@ -37,5 +37,6 @@ counts-few mode kind e = rw e (few mode kind)
 pub segment-put : {out mid end : List ℕ} {at a r : ℕ} (mode : Mode) (s : List ℕ) (place seg carrier : ℕ) (kind : SegmentKind)
     → Answered s → place < 13 → seg ≡ segmentAt place → carrier ≡ place * carriersPerSegment mode + 0
     → kind ≡ kindFrom (getD s (4 + seg) 0 - 67)
-    → Put out at (lineHead place seg (getD s (4 + seg) 0) carrier) a mid → Put mid a (countsLine (kindCounts mode kind)) r end → Put out at (lineAt mode s place) r end
+    → Put out at (lineHead place seg (getD s (4 + seg) 0) carrier) a mid → Put mid a (countsLine (kindCounts mode kind)) r end
+    → Put out at (lineAt mode s place) r end
 segment-put mode s place seg carrier kind q h es ec ek p t = put-as (line-parts mode s place q h ∙ rw (ek, es, ec, add-zero)) (then p t)

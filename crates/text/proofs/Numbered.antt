@@ -13,10 +13,6 @@ use lib.Seq.{take-suc}
 use Rattle.text.specs.Decimal.{decimal}
 use Rattle.text.specs.Digits.{pair, few}
 
-pub decimal-few : (n : ℕ) → n < 100 → decimal n ≡ few n
-unfolding decimal
-decimal-few n h = rw (lt-ltb n 100 h)
-
 pub decimal-more : (n : ℕ) → 100 ≤ n → decimal n ≡ few (n / 100) ++ pair (n % 100)
 unfolding decimal
 decimal-more n h = by (ltb n 1000) refl

@@ -45,8 +45,11 @@ pub fn put_decimal(out: &mut [u8], at: usize, n: usize) -> usize
     ensures { λ r. ⌜ Put (now (out .entry)) at (decimal n) r (now (out .exit)) ⌝ }
     ensures { λ r. ⌜ (r ≤ at + 4) × (r ≤ at + 1 + n / 10) ⌝ }
 {
+    if n < 10 {
+        return put_byte(out, at, (48 + n) as u8);
+    }
     if n < 100 {
-        return put_few(out, at, n);
+        return put_pair(out, at, n);
     }
     let tens = put_few(out, at, n / 100);
     put_pair(out, tens, n % 100)
