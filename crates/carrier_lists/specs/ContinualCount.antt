@@ -26,7 +26,8 @@ use Rattle.frame.specs.Roles.{roleByte, segmentRoles, bandRoles, wideSegment, w
 use Rattle.frame.specs.OneRole.{between-one}
 use Rattle.frame.specs.BySegment.{by-segment}
 use Rattle.role_counts.specs.declared.KindCounts.{KindCounts}
-use Rattle.role_counts.specs.Counts.{countRole, units, kindCounts, segment-counted}
+use Rattle.role_counts.specs.Counts.{countRole, units, kindCounts}
+use Rattle.counted_roles.specs.CountedRoles.{segment-counted}
 use Rattle.carrier_lists.specs.CarrierLists.{continualIn, continualList}
 
 -- the most numbers of a continual list

@@ -1,4 +1,3 @@
 pub mod Signs
-pub mod OneRegister
 pub mod SignMap
 pub mod Buffered

@@ -10,20 +10,21 @@ use libc::STDIN_FILENO;
 use libc::STDOUT_FILENO;
 use tally::Tally;
 
-// Prints a line, as `first states 39 compared, 0 differ`.
+fn print_count(n: u64, words: &[u8]) {
+    io::print_decimal(STDOUT_FILENO, n);
+    io::write_all(STDOUT_FILENO, words);
+}
+
+// Prints a line, as `first states 39 compared, 0 differ`; the name ends in a space.
 pub fn print_tally(name: &[u8], tally: Tally) {
     io::write_all(STDOUT_FILENO, name);
-    io::write_all(STDOUT_FILENO, b" ");
-    io::print_decimal(STDOUT_FILENO, tally.compared);
-    io::write_all(STDOUT_FILENO, b" compared, ");
-    io::print_decimal(STDOUT_FILENO, tally.differ);
-    io::write_all(STDOUT_FILENO, b" differ\n");
+    print_count(tally.compared, b" compared, ");
+    print_count(tally.differ, b" differ\n");
 }
 
 // Prints the last line, as `0 differences`.
 pub fn print_differences(n: u64) {
-    io::print_decimal(STDOUT_FILENO, n);
-    io::write_all(STDOUT_FILENO, b" differences\n");
+    print_count(n, b" differences\n");
 }
 
 // Reads the next n bytes of the input to the start of room: whether they were there and found room.
@@ -457,16 +458,20 @@ pub fn read_floats(out: &mut [f32], size: u8, n: usize) -> bool {
     true
 }
 
+fn longs_of(bytes: &[u8; 16]) -> Longs {
+    Longs::Numbers(long_at(bytes, 0), long_at(bytes, 8))
+}
+
 // Reads n numbers of eight bytes, which are at most two.
 pub fn read_longs(n: usize) -> Longs {
-    let mut room = [0u8; 16];
     if 2 < n {
         return Longs::Cut;
     }
+    let mut room = [0u8; 16];
     if !read_part(&mut room, 8 * n) {
         return Longs::Cut;
     }
-    Longs::Numbers(long_at(&room, 0), long_at(&room, 8))
+    longs_of(&room)
 }
 
 // The wide numbers of a record, or that the input ended.

@@ -3,8 +3,7 @@
 // in the record (oracle/README.md, "The stored answers", has the form). A record that ends early, or
 // makes no sense, counts as a difference and ends the run.
 //
-// A new operation has a function here, a line in `check_call` or `check_value`, and its name in
-// `print_operations`.
+// A new operation has a function here and a line in `check_call` or `check_value`; `OPERATIONS` counts it.
 ghost use Prim.Native.Nat.{_+_, _*_, _≤_, _<_};
 ghost use mathlib.Core.Path.{_≡_};
 ghost use lib.ListN.{length};
@@ -500,49 +499,27 @@ fn print_counts(i: usize, counts: &[u64; 99])
     print_count(counts, 3 * i + 2, b" differ\n");
 }
 
-// A name has 16 bytes, of which the last ones are spaces.
-fn print_name(i: usize, names: &[u8])
-    requires { ⌜ 16 * i + 16 ≤ length (now names) ⌝ }
-{
-    io::write_all(STDOUT_FILENO, &names[16 * i..16 * i + 16]);
+fn print_number(i: usize) {
+    io::print_decimal(STDOUT_FILENO, i as u64);
+    io::write_all(STDOUT_FILENO, b": ");
 }
 
-fn print_lines(n: usize, names: &[u8], counts: &[u64; 99])
-    requires { ⌜ (n ≤ 32) × (16 * n ≤ length (now names)) ⌝ }
+// A line for each of n operations, by its number.
+fn print_lines(n: usize, counts: &[u64; 99])
+    requires { ⌜ n ≤ 32 ⌝ }
 {
     let mut i: usize = 0;
     while i < n {
-        print_name(i, names);
-        print_counts(i + 1, counts);
         i += 1;
+        print_number(i);
+        print_counts(i, counts);
     }
-}
-
-// A line for each operation, in the order of their numbers.
-fn print_operations(counts: &[u64; 99]) {
-    let names = b"carrier_bin     \
-                  role_map        \
-                  sign_map        \
-                  data_list       \
-                  continual_list  \
-                  samples_needed  \
-                  detect_mode     \
-                  integer_cfo     \
-                  detect_kinds    \
-                  tmcc_soft       \
-                  detect_sp_phase \
-                  estimate_grid   \
-                  root            \
-                  narrow          \
-                  norm32          \
-                  norm64          ";
-    print_lines(OPERATIONS as usize, names, counts);
 }
 
 fn print_all(counts: &[u64; 99]) {
     io::write_all(STDOUT_FILENO, b"records ");
     print_count(counts, 0, b"\n");
-    print_operations(counts);
+    print_lines(OPERATIONS as usize, counts);
     print_count(counts, 2, b" differences\n");
 }
 

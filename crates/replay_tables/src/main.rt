@@ -171,9 +171,9 @@ fn main() {
     let entries = check_tables(Tally::new());
     let states = check_all_states(Tally::new().after(entries));
     let randomizing = check_all_randomizing(Tally::new().after(states));
-    replay::print_tally(b"table entries", entries);
-    replay::print_tally(b"first states", states);
-    replay::print_tally(b"randomizing entries", randomizing);
+    replay::print_tally(b"table entries ", entries);
+    replay::print_tally(b"first states ", states);
+    replay::print_tally(b"randomizing entries ", randomizing);
     let all = entries.with(states).with(randomizing);
     replay::print_differences(all.differ);
 }

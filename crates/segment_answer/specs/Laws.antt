@@ -13,7 +13,8 @@ use Rattle.params.specs.Params.{carriersPerSegment, kindFrom}
 use Rattle.ofdm.specs.Band.{segmentAt}
 use Rattle.ofdm.specs.Laws.{segment-below}
 use Rattle.frame.specs.Roles.{segmentRoles}
-use Rattle.role_counts.specs.Counts.{kindCounts, segment-counted}
+use Rattle.role_counts.specs.Counts.{kindCounts}
+use Rattle.counted_roles.specs.CountedRoles.{segment-counted}
 use Rattle.text.specs.Decimal.{field}
 use Rattle.question.specs.Question.{modeAsked, phaseAsked, kindsAsked, lineCode, Answered}
 use Rattle.question.specs.Laws.{question-letter, kind-asked, other-code, no-question}

@@ -1,5 +1,5 @@
 -- The numbers of ARIB STD-B31, Tables 3-13 to 3-16, by mode and, in each list of rows, by segment number.
--- What a reader must believe here is the transcription: `Rule`, frame's `RowsLaid` and prbs's `OneRegister` say what it was compared with.
+-- What a reader must believe here is the transcription: `Rule`, frame's `RowsLaid` and the crate `one_register` say what it was compared with.
 -- Definitions only.
 use Prim.Native.Nat.{ℕ}
 use mathlib.Core.List.{List, [], _∷_}

@@ -1,4 +1,4 @@
--- `replay_operations::print_lines` is safe and ends: there are 16 bytes to a name, and the index stays below n.
+-- `replay_operations::print_lines` is safe and ends: the numbers stay up to n.
 -- Assumes nothing.
 use Prim.Native.Nat.{_-_, _≤_}
 use borrow.Author.Needs.{needs}
@@ -6,25 +6,22 @@ use Rattle.replay_operations.proofs.print_lines.Statement.{statement}
 use Rattle.replay_operations.proofs.print_lines.Tie as tie
 
 abbrev Inv-loop : tie.InvT-loop
-Inv-loop n names counts i₀ i = i ≤ n
+Inv-loop n counts i₀ i = i ≤ n
 
 abbrev μ-loop : tie.MeasureT-loop
-μ-loop n names counts i₀ i = n - i
+μ-loop n counts i₀ i = n - i
 
 loop-holds : tie.Need-loop-holds Inv-loop μ-loop
 loop-holds c = search needs
 
-print-name-requires : tie.Need-print-name-requires Inv-loop μ-loop
-print-name-requires c κs = search needs
+add-i : tie.Need-add-i Inv-loop μ-loop
+add-i c = search needs
 
-add-print-counts : tie.Need-add-print-counts Inv-loop μ-loop
-add-print-counts c = search needs
+print-number-requires : tie.Need-print-number-requires Inv-loop μ-loop
+print-number-requires c κs = search needs
 
 print-counts-requires : tie.Need-print-counts-requires Inv-loop μ-loop
 print-counts-requires c κs = search needs
-
-add-i : tie.Need-add-i Inv-loop μ-loop
-add-i c = search needs
 
 loop-less : tie.Need-loop-less Inv-loop μ-loop
 loop-less c = search needs
@@ -42,10 +39,9 @@ print-lines-spec =
     Inv-loop
     μ-loop
     loop-holds
-    print-name-requires
-    add-print-counts
-    print-counts-requires
     add-i
+    print-number-requires
+    print-counts-requires
     loop-less
     loop-again
     returns)
