@@ -5,11 +5,11 @@
 mod standard;
 
 ghost use mathlib.Core.Path.{_≡_};
-ghost use mathlib.Core.List.{[]};
-ghost use Prim.Native.Nat.{_<_, _≤_};
+ghost use Prim.Native.Nat.{_*_, _<_, _≤_};
 ghost use lib.ListN.{length, getD};
 ghost use Rattle.tables.specs.Rows.{diffAc1, diffAc2, diffTmcc, cohTmcc, carrierRandomize};
 ghost use Rattle.tables.specs.Places.{Listed, tmccOf, ac1Of, ac2Of, initOf};
+ghost use Rattle.tables.specs.Inner.{laidOut, rowAt};
 ghost use Rattle.params.specs.Params.{dataCarriersPerSegment};
 ghost use Rattle.params.specs.declared.Mode.the-variants.{M1, M2, M3};
 use params::Mode;
@@ -37,88 +37,97 @@ fn copied(row: &[u16]) -> Positions
     }
 }
 
+// A row of a table that has thirteen of them, of `count` places each, one behind another.
+fn row_of(table: &[u16], count: usize, row: usize) -> Positions
+    requires { ⌜ (row < 13) × (count ≤ 20) × (length (now table) ≡ 13 * count) ⌝ }
+    ensures { λ r. ⌜ Listed r (rowAt (now (table .entry)) count row) ⌝ }
+{
+    let start = count * row;
+    copied(&table[start..start + count])
+}
+
 fn coh_tmcc_m1(row: usize) -> Positions
     requires { ⌜ row < 13 ⌝ }
-    ensures { λ r. ⌜ Listed r (getD (cohTmcc M1) row []) ⌝ }
+    ensures { λ r. ⌜ Listed r (rowAt (laidOut (cohTmcc M1)) 1 row) ⌝ }
 {
-    copied(&standard::COH_TMCC_M1[row])
+    row_of(&standard::COH_TMCC_M1, 1, row)
 }
 
 fn coh_tmcc_m2(row: usize) -> Positions
     requires { ⌜ row < 13 ⌝ }
-    ensures { λ r. ⌜ Listed r (getD (cohTmcc M2) row []) ⌝ }
+    ensures { λ r. ⌜ Listed r (rowAt (laidOut (cohTmcc M2)) 2 row) ⌝ }
 {
-    copied(&standard::COH_TMCC_M2[row])
+    row_of(&standard::COH_TMCC_M2, 2, row)
 }
 
 fn coh_tmcc_m3(row: usize) -> Positions
     requires { ⌜ row < 13 ⌝ }
-    ensures { λ r. ⌜ Listed r (getD (cohTmcc M3) row []) ⌝ }
+    ensures { λ r. ⌜ Listed r (rowAt (laidOut (cohTmcc M3)) 4 row) ⌝ }
 {
-    copied(&standard::COH_TMCC_M3[row])
+    row_of(&standard::COH_TMCC_M3, 4, row)
 }
 
 fn diff_tmcc_m1(row: usize) -> Positions
     requires { ⌜ row < 13 ⌝ }
-    ensures { λ r. ⌜ Listed r (getD (diffTmcc M1) row []) ⌝ }
+    ensures { λ r. ⌜ Listed r (rowAt (laidOut (diffTmcc M1)) 5 row) ⌝ }
 {
-    copied(&standard::DIFF_TMCC_M1[row])
+    row_of(&standard::DIFF_TMCC_M1, 5, row)
 }
 
 fn diff_tmcc_m2(row: usize) -> Positions
     requires { ⌜ row < 13 ⌝ }
-    ensures { λ r. ⌜ Listed r (getD (diffTmcc M2) row []) ⌝ }
+    ensures { λ r. ⌜ Listed r (rowAt (laidOut (diffTmcc M2)) 10 row) ⌝ }
 {
-    copied(&standard::DIFF_TMCC_M2[row])
+    row_of(&standard::DIFF_TMCC_M2, 10, row)
 }
 
 fn diff_tmcc_m3(row: usize) -> Positions
     requires { ⌜ row < 13 ⌝ }
-    ensures { λ r. ⌜ Listed r (getD (diffTmcc M3) row []) ⌝ }
+    ensures { λ r. ⌜ Listed r (rowAt (laidOut (diffTmcc M3)) 20 row) ⌝ }
 {
-    copied(&standard::DIFF_TMCC_M3[row])
+    row_of(&standard::DIFF_TMCC_M3, 20, row)
 }
 
 fn ac1_m1(row: usize) -> Positions
     requires { ⌜ row < 13 ⌝ }
-    ensures { λ r. ⌜ Listed r (getD (diffAc1 M1) row []) ⌝ }
+    ensures { λ r. ⌜ Listed r (rowAt (laidOut (diffAc1 M1)) 2 row) ⌝ }
 {
-    copied(&standard::AC1_M1[row])
+    row_of(&standard::AC1_M1, 2, row)
 }
 
 fn ac1_m2(row: usize) -> Positions
     requires { ⌜ row < 13 ⌝ }
-    ensures { λ r. ⌜ Listed r (getD (diffAc1 M2) row []) ⌝ }
+    ensures { λ r. ⌜ Listed r (rowAt (laidOut (diffAc1 M2)) 4 row) ⌝ }
 {
-    copied(&standard::AC1_M2[row])
+    row_of(&standard::AC1_M2, 4, row)
 }
 
 fn ac1_m3(row: usize) -> Positions
     requires { ⌜ row < 13 ⌝ }
-    ensures { λ r. ⌜ Listed r (getD (diffAc1 M3) row []) ⌝ }
+    ensures { λ r. ⌜ Listed r (rowAt (laidOut (diffAc1 M3)) 8 row) ⌝ }
 {
-    copied(&standard::AC1_M3[row])
+    row_of(&standard::AC1_M3, 8, row)
 }
 
 fn diff_ac2_m1(row: usize) -> Positions
     requires { ⌜ row < 13 ⌝ }
-    ensures { λ r. ⌜ Listed r (getD (diffAc2 M1) row []) ⌝ }
+    ensures { λ r. ⌜ Listed r (rowAt (laidOut (diffAc2 M1)) 4 row) ⌝ }
 {
-    copied(&standard::DIFF_AC2_M1[row])
+    row_of(&standard::DIFF_AC2_M1, 4, row)
 }
 
 fn diff_ac2_m2(row: usize) -> Positions
     requires { ⌜ row < 13 ⌝ }
-    ensures { λ r. ⌜ Listed r (getD (diffAc2 M2) row []) ⌝ }
+    ensures { λ r. ⌜ Listed r (rowAt (laidOut (diffAc2 M2)) 9 row) ⌝ }
 {
-    copied(&standard::DIFF_AC2_M2[row])
+    row_of(&standard::DIFF_AC2_M2, 9, row)
 }
 
 fn diff_ac2_m3(row: usize) -> Positions
     requires { ⌜ row < 13 ⌝ }
-    ensures { λ r. ⌜ Listed r (getD (diffAc2 M3) row []) ⌝ }
+    ensures { λ r. ⌜ Listed r (rowAt (laidOut (diffAc2 M3)) 19 row) ⌝ }
 {
-    copied(&standard::DIFF_AC2_M3[row])
+    row_of(&standard::DIFF_AC2_M3, 19, row)
 }
 
 // TMCC places of a segment.

@@ -11,6 +11,7 @@ use Rattle.params.specs.declared.SegmentKind.{SegmentKind}
 use Rattle.params.specs.declared.SegmentKind.the-variants.{Coherent, Differential}
 use Rattle.tables.specs.Rows.{diffAc1}
 use Rattle.tables.specs.Places.{ac1Of}
+use Rattle.tables.proofs.Laid.{row-read}
 use Rattle.tables.proofs.ac1_positions.Statement.{statement}
 use Rattle.tables.proofs.ac1_positions.Tie as tie
 
@@ -40,13 +41,19 @@ ac1-m3-requires : tie.Need-ac1-m3-requires
 ac1-m3-requires c κs = search needs
 
 returns : tie.Need-returns
-returns c = rw (of-either _ _ _, c .before .enum-told .given .1) (c .ac1-m1 .ensures)
+returns c =
+    rw (of-either _ _ _, c .before .enum-told .given .1)
+    (row-read (diffAc1 M1) 2 refl (c .before .before .before .args .row) (c .before .before .before .pre) (c .ac1-m1 .ensures))
 
 returns-2 : tie.Need-returns-2
-returns-2 c = rw (of-either _ _ _, c .before .enum-told2 .given .1) (c .ac1-m2 .ensures)
+returns-2 c =
+    rw (of-either _ _ _, c .before .enum-told2 .given .1)
+    (row-read (diffAc1 M2) 4 refl (c .before .before .before .args .row) (c .before .before .before .pre) (c .ac1-m2 .ensures))
 
 returns-3 : tie.Need-returns-3
-returns-3 c = rw (of-either _ _ _, c .before .enum-told3 .given .1) (c .ac1-m3 .ensures)
+returns-3 c =
+    rw (of-either _ _ _, c .before .enum-told3 .given .1)
+    (row-read (diffAc1 M3) 8 refl (c .before .before .before .args .row) (c .before .before .before .pre) (c .ac1-m3 .ensures))
 
 pub ac1-positions-spec : {M : Type 1} → statement M
 ac1-positions-spec =

@@ -1,6 +1,10 @@
 -- `tables::ac2_positions` meets its contract: each pair of arms reads the table of its kind and mode; a coherent segment has no AC2.
 -- Assumes nothing.
+use mathlib.Core.Path.{refl}
 use borrow.Author.Needs.{needs}
+use Rattle.params.specs.declared.Mode.the-variants.{M1, M2, M3}
+use Rattle.tables.specs.Rows.{diffAc2}
+use Rattle.tables.proofs.Laid.{row-read}
 use Rattle.tables.proofs.ac2_positions.Statement.{statement}
 use Rattle.tables.proofs.ac2_positions.Tie as tie
 
@@ -32,13 +36,19 @@ returns : tie.Need-returns
 returns c = search needs
 
 returns-2 : tie.Need-returns-2
-returns-2 c = rw (c .before .before .before .enum-told2 .given .1, c .before .enum-told3 .given .1) (c .diff-ac2-m1 .ensures)
+returns-2 c =
+    rw (c .before .before .before .enum-told2 .given .1, c .before .enum-told3 .given .1)
+    (row-read (diffAc2 M1) 4 refl (c .before .before .before .before .before .args .row) (c .before .before .before .before .before .pre) (c .diff-ac2-m1 .ensures))
 
 returns-3 : tie.Need-returns-3
-returns-3 c = rw (c .before .before .before .enum-told2 .given .1, c .before .enum-told4 .given .1) (c .diff-ac2-m2 .ensures)
+returns-3 c =
+    rw (c .before .before .before .enum-told2 .given .1, c .before .enum-told4 .given .1)
+    (row-read (diffAc2 M2) 9 refl (c .before .before .before .before .before .args .row) (c .before .before .before .before .before .pre) (c .diff-ac2-m2 .ensures))
 
 returns-4 : tie.Need-returns-4
-returns-4 c = rw (c .before .before .before .enum-told2 .given .1, c .before .enum-told5 .given .1) (c .diff-ac2-m3 .ensures)
+returns-4 c =
+    rw (c .before .before .before .enum-told2 .given .1, c .before .enum-told5 .given .1)
+    (row-read (diffAc2 M3) 19 refl (c .before .before .before .before .before .args .row) (c .before .before .before .before .before .pre) (c .diff-ac2-m3 .ensures))
 
 pub ac2-positions-spec : {M : Type 1} → statement M
 ac2-positions-spec =

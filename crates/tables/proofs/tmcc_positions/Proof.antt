@@ -1,6 +1,10 @@
 -- `tables::tmcc_positions` meets its contract: each pair of arms reads the table of its kind and mode.
 -- Assumes nothing.
+use mathlib.Core.Path.{refl}
 use borrow.Author.Needs.{needs}
+use Rattle.params.specs.declared.Mode.the-variants.{M1, M2, M3}
+use Rattle.tables.specs.Rows.{cohTmcc, diffTmcc}
+use Rattle.tables.proofs.Laid.{row-read}
 use Rattle.tables.proofs.tmcc_positions.Statement.{statement}
 use Rattle.tables.proofs.tmcc_positions.Tie as tie
 
@@ -47,22 +51,34 @@ diff-tmcc-m3-requires : tie.Need-diff-tmcc-m3-requires
 diff-tmcc-m3-requires c κs = search needs
 
 returns : tie.Need-returns
-returns c = rw (c .before .before .before .enum-told .given .1, c .before .enum-told2 .given .1) (c .coh-tmcc-m1 .ensures)
+returns c =
+    rw (c .before .before .before .enum-told .given .1, c .before .enum-told2 .given .1)
+    (row-read (cohTmcc M1) 1 refl (c .before .before .before .before .before .args .row) (c .before .before .before .before .before .pre) (c .coh-tmcc-m1 .ensures))
 
 returns-2 : tie.Need-returns-2
-returns-2 c = rw (c .before .before .before .enum-told .given .1, c .before .enum-told3 .given .1) (c .coh-tmcc-m2 .ensures)
+returns-2 c =
+    rw (c .before .before .before .enum-told .given .1, c .before .enum-told3 .given .1)
+    (row-read (cohTmcc M2) 2 refl (c .before .before .before .before .before .args .row) (c .before .before .before .before .before .pre) (c .coh-tmcc-m2 .ensures))
 
 returns-3 : tie.Need-returns-3
-returns-3 c = rw (c .before .before .before .enum-told .given .1, c .before .enum-told4 .given .1) (c .coh-tmcc-m3 .ensures)
+returns-3 c =
+    rw (c .before .before .before .enum-told .given .1, c .before .enum-told4 .given .1)
+    (row-read (cohTmcc M3) 4 refl (c .before .before .before .before .before .args .row) (c .before .before .before .before .before .pre) (c .coh-tmcc-m3 .ensures))
 
 returns-4 : tie.Need-returns-4
-returns-4 c = rw (c .before .before .before .enum-told5 .given .1, c .before .enum-told6 .given .1) (c .diff-tmcc-m1 .ensures)
+returns-4 c =
+    rw (c .before .before .before .enum-told5 .given .1, c .before .enum-told6 .given .1)
+    (row-read (diffTmcc M1) 5 refl (c .before .before .before .before .before .args .row) (c .before .before .before .before .before .pre) (c .diff-tmcc-m1 .ensures))
 
 returns-5 : tie.Need-returns-5
-returns-5 c = rw (c .before .before .before .enum-told5 .given .1, c .before .enum-told7 .given .1) (c .diff-tmcc-m2 .ensures)
+returns-5 c =
+    rw (c .before .before .before .enum-told5 .given .1, c .before .enum-told7 .given .1)
+    (row-read (diffTmcc M2) 10 refl (c .before .before .before .before .before .args .row) (c .before .before .before .before .before .pre) (c .diff-tmcc-m2 .ensures))
 
 returns-6 : tie.Need-returns-6
-returns-6 c = rw (c .before .before .before .enum-told5 .given .1, c .before .enum-told8 .given .1) (c .diff-tmcc-m3 .ensures)
+returns-6 c =
+    rw (c .before .before .before .enum-told5 .given .1, c .before .enum-told8 .given .1)
+    (row-read (diffTmcc M3) 20 refl (c .before .before .before .before .before .args .row) (c .before .before .before .before .before .pre) (c .diff-tmcc-m3 .ensures))
 
 pub tmcc-positions-spec : {M : Type 1} → statement M
 tmcc-positions-spec =
