@@ -9,32 +9,12 @@
 ghost use mathlib.Core.Path.{_≡_};
 ghost use Prim.Native.Nat.{_≤_};
 ghost use lib.ListN.{length};
+ghost use Rattle.reading.specs.declared.Input.the-variants.{More};
 ghost use Rattle.segment_list.specs.Feed.{Leaves};
-ghost use Rattle.segments.specs.declared.Input.the-variants.{More};
-ghost use Rattle.segments.specs.Read.{readTold};
 use libc::STDIN_FILENO;
 use libc::STDOUT_FILENO;
 use open_line::Line;
-
-// How it stands with the input: so many bytes were read, it has ended, or a read or a write failed.
-enum Input {
-    More(usize),
-    Ended,
-    Failed,
-}
-
-// What a read returned says of the input.
-fn told(got: isize) -> Input
-    ensures { λ r. ⌜ r ≡ readTold got ⌝ }
-{
-    if got < 0 {
-        return Input::Failed;
-    }
-    if got == 0 {
-        return Input::Ended;
-    }
-    Input::More(got as usize)
-}
+use reading::Input;
 
 // What a turn leaves: how it stands with the input, and the line that is open.
 struct Turn {
@@ -72,7 +52,7 @@ fn answer(line: Line, bytes: &[u8], out: &mut [u8]) -> Turn
 fn read_once(line: Line, buffer: &mut [u8], out: &mut [u8]) -> Turn
     requires { ⌜ 512 ≤ length (now out) ⌝ }
 {
-    let input = told(libc::read(STDIN_FILENO, buffer));
+    let input = reading::told(libc::read(STDIN_FILENO, buffer));
     let Input::More(n) = input else {
         return Turn {
             input: input,

@@ -5,8 +5,8 @@ use native.Mathlib.Omega.{arith}
 use lib.ListN.{length-take}
 use mir.Facts.{toZ-ofZ}
 use mir.Syntax.{w64}
-use Rattle.segments.specs.Read.{readTold}
-use Rattle.segments.specs.Laws.{more-within}
+use Rattle.reading.specs.Read.{readTold}
+use Rattle.reading.specs.Laws.{more-within}
 use borrow.Author.Needs.{needs, sfits-of}
 use Rattle.segments.proofs.read_once.Statement.{statement}
 use Rattle.segments.proofs.read_once.Tie as tie

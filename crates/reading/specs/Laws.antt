@@ -9,8 +9,8 @@ use lib.Dec.{T, eqb}
 use lib.IntN.{ℤ, pos, negsuc, natAbs}
 use lib.Signed.{ltZ, nonNeg}
 use Rattle.libc.specs.Io.{Moved}
-use Rattle.segments.specs.declared.Input.the-variants.{More, Ended, Failed}
-use Rattle.segments.specs.Read.{readTold}
+use Rattle.reading.specs.declared.Input.the-variants.{More, Ended, Failed}
+use Rattle.reading.specs.Read.{readTold}
 
 pub told-failed : (z : ℤ) → ltZ z (pos 0) ≡ true → Failed ≡ readTold z
 unfolding readTold

@@ -1,13 +1,13 @@
--- `segments::told` meets its contract: the tests are on the number that the machine reads back from the bits.
+-- `reading::told` meets its contract: the tests are on the number that the machine reads back from the bits.
 -- Assumes nothing.
 use mathlib.Core.Path.{sym, ap, _∙_}
 use mir.Facts.{toZ-ofZ, fits-natAbs, sfits-toZ, fits-ofZ}
 use mir.Syntax.{w64}
 use mir.Val.{toZ, ofZ}
-use Rattle.segments.specs.Read.{readTold}
-use Rattle.segments.specs.Laws.{told-failed, told-ended, told-more, not-below}
-use Rattle.segments.proofs.told.Statement.{statement}
-use Rattle.segments.proofs.told.Tie as tie
+use Rattle.reading.specs.Read.{readTold}
+use Rattle.reading.specs.Laws.{told-failed, told-ended, told-more, not-below}
+use Rattle.reading.proofs.told.Statement.{statement}
+use Rattle.reading.proofs.told.Tie as tie
 
 returns : tie.Need-returns
 returns c =
