@@ -15,7 +15,8 @@ use Rattle.params.specs.declared.Mode.{Mode}
 use Rattle.complex.specs.Complex.{Pair, of32, scaled, plus}
 use Rattle.complex.specs.Totals.{totals, totals-append}
 use Rattle.spectra.specs.Spectra.{pairAt}
-use Rattle.prbs.specs.Signs.{bandSigns, pilotValue}
+use Rattle.prbs.specs.Signs.{bandSigns}
+use Rattle.pilots.specs.Pilots.{pilotValue}
 use Rattle.ballots.specs.declared.Pilot.{Pilot}
 use Rattle.ballots.specs.declared.Run.{Run}
 use Rattle.ballots.specs.Ballots.{twelveApart, timesPilot, pilotProduct, pilotEnergy, productSum, energySum}

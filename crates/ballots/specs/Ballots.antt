@@ -16,7 +16,8 @@ use Rattle.params.specs.Params.{totalCarriers}
 use Rattle.complex.specs.Complex.{Pair, pair, product, conjugate, scaled, norm32}
 use Rattle.complex.specs.Totals.{totals}
 use Rattle.spectra.specs.Spectra.{pairAt, spectraIn}
-use Rattle.prbs.specs.Signs.{bandSigns, pilotValue}
+use Rattle.prbs.specs.Signs.{bandSigns}
+use Rattle.pilots.specs.Pilots.{pilotValue}
 use Rattle.frame.specs.Roles.{bandRoles, wide}
 
 -- ---- the scattered pilots of a phase, ascending: the carriers whose role byte is 1

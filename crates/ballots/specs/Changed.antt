@@ -28,7 +28,8 @@ use Rattle.complex.specs.Bounds.{pilotLevel, pilotStepLevel, pilotEnergyLevel, 
 use Rattle.complex.specs.Bounds.{pilot-energy-gain, pilot-sum-gain, pilot-energy-sum-gain, pilot-quotient-gain, above-zero-gain}
 use Rattle.spectra.specs.Spectra.{spectraIn}
 use Rattle.spectra.specs.Changes.{Changed, Allowed}
-use Rattle.prbs.specs.Signs.{bandSigns, pilotAmplitude, pilotValue}
+use Rattle.prbs.specs.Signs.{bandSigns}
+use Rattle.pilots.specs.Pilots.{pilotAmplitude, pilotValue}
 use Rattle.ballots.specs.Ballots.{pilotPairs, timesPilot, pilotProduct, pilotEnergy, productSum, energySum, hasEnergy}
 use Rattle.ballots.specs.Ballots.{phaseMetric, Choice, chooseFrom, choiceOf, ballotOf, spectrumAt, ballotAt, ballots}
 use Rattle.ballots.specs.Pilots.{Apart, pilots-apart, few-pilots}

@@ -12,7 +12,8 @@ use Rattle.params.specs.declared.Mode.{Mode}
 use Rattle.params.specs.Params.{totalCarriers}
 use Rattle.complex.specs.Complex.{Pair, of32, product, conjugate, plus, scaled, squaredSize, norm32}
 use Rattle.spectra.specs.Spectra.{pairAt}
-use Rattle.prbs.specs.Signs.{bandSigns, pilotValue}
+use Rattle.prbs.specs.Signs.{bandSigns}
+use Rattle.pilots.specs.Pilots.{pilotValue}
 use Rattle.ballots.specs.declared.Pilot.{Pilot}
 use Rattle.ballots.specs.declared.Run.{Run}
 use Rattle.ballots.specs.Ballots.{pilots, twelveApart, timesPilot, productSum, energySum}

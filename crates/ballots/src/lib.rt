@@ -86,7 +86,7 @@ fn pilot_at(y: &[f32], signs: &[u8], carrier: BandCarrier) -> Pilot
 {
     let k = carrier.0;
     let x = spectra::pair_at(y, k);
-    let pilot = prbs::pilot_value(signs[k]);
+    let pilot = pilots::pilot_value(signs[k]);
     let value = x.scale(pilot.re);
     Pilot {
         value: value,

@@ -7,7 +7,6 @@ use mathlib.Core.Path.{_≡_, refl}
 use native.Mathlib.Omega.{arith}
 use native.Mathlib.Nat.{add-comm, zero-add, suc-add, suc-mul}
 use lib.Dec.{lit<}
-use lib.Ieee.{binary32, ofBits, div}
 use lib.ListN.{take}
 use lib.Seq.{getD-take}
 use Rattle.lists.specs.Tests.{values, agree}
@@ -16,7 +15,7 @@ use Rattle.params.specs.declared.Mode.the-variants.{M1, M2, M3}
 use Rattle.params.specs.Params.{carriersPerSegment}
 use Rattle.tables.specs.Places.{initOf}
 use Rattle.ofdm.specs.Band.{segmentAt}
-use Rattle.prbs.specs.Signs.{loaded, xor, after, signAfter, edgeSign, pilotAmplitude}
+use Rattle.prbs.specs.Signs.{loaded, xor, after, signAfter, edgeSign}
 
 -- the register with every bit set, which the lowest segment loads
 abbrev pub ones : List ℕ
@@ -72,8 +71,3 @@ polynomial b n =
       getD-take 9 (take 10 (after n b)) 8 0 (lit< tt),
       getD-take 10 (after n b) 8 0 (lit< tt),
     )
-
--- the pilots' amplitude is 4 divided by 3, rounded to f32
-pub four-thirds : div binary32 (ofBits binary32 0x4080_0000) (ofBits binary32 0x4040_0000) ≡ pilotAmplitude
-unfolding ofBits div
-four-thirds = refl

@@ -6,7 +6,7 @@ use lib.Ieee.{Float, binary32, div, ofBits}
 use Rattle.ofdm.specs.declared.BandCarrier.{BandCarrier}
 use Rattle.complex.specs.Complex.{Pair, scaled}
 use Rattle.spectra.specs.Spectra.{pairAt}
-use Rattle.prbs.specs.Signs.{pilotValue}
+use Rattle.pilots.specs.Pilots.{pilotValue}
 use Rattle.pilot_times.specs.declared.Window.{Window}
 use Rattle.pilot_times.specs.Window.{offsetOf}
 use Rattle.pilot_line.specs.Line.{Point, point, lineAtZero}

@@ -1,4 +1,4 @@
--- The pilot signs (ARIB STD-B31, 3.13.1, Figure 3-31, Tables 3-16, 3-17 and 3-19): a register of x^11 + x^9 + 1, loaded afresh for
+-- The pilot signs (ARIB STD-B31, 3.13.1, Figure 3-31, Tables 3-16 and 3-19): a register of x^11 + x^9 + 1, loaded afresh for
 -- each segment.
 -- Definitions only.
 use Prim.Native.Nat.{ℕ, zero, suc, _/_, _%_}
@@ -6,7 +6,6 @@ use mathlib.Core.Bool.{cond}
 use mathlib.Core.List.{List, [], _∷_, _++_}
 use mathlib.Core.Path.{_≡_}
 use lib.Dec.{eqb}
-use lib.Ieee.{Float, binary32, ofBits, neg}
 use lib.ListN.{getD, take}
 use Rattle.lists.specs.Lists.{upTo, joined}
 use Rattle.params.specs.declared.Mode.{Mode}
@@ -14,7 +13,6 @@ use Rattle.params.specs.declared.Mode.the-variants.{M1, M2, M3}
 use Rattle.params.specs.Params.{carriersPerSegment}
 use Rattle.tables.specs.Places.{initOf}
 use Rattle.ofdm.specs.Band.{order}
-use Rattle.complex.specs.Complex.{Pair, pair}
 
 -- the eleven bits D1 to D11 of a row of Table 3-16
 abbrev pub loaded : ℕ → List ℕ
@@ -56,11 +54,3 @@ segmentSigns mode row = upTo (signAfter (loaded (initOf mode row))) (carriersPer
 -- the signs of the band, its edge last
 unfoldable pub bandSigns : Mode → List ℕ
 bandSigns mode = joined (segmentSigns mode) order ++ (edgeSign mode ∷ [])
-
--- 4/3 as f32
-abbrev pub pilotAmplitude : Float
-pilotAmplitude = ofBits binary32 0x3faa_aaab
-
--- the pilot of a sign: 0 is +4/3, 1 is -4/3
-abbrev pub pilotValue : ℕ → Pair
-pilotValue w = pair (cond (eqb w 0) pilotAmplitude (neg pilotAmplitude)) (ofBits binary32 0)

@@ -6,18 +6,13 @@ ghost use lib.ListN.{length};
 ghost use Rattle.lists.specs.Lists.{upTo};
 ghost use Rattle.params.specs.Params.{modeFrom, carriersPerSegment, totalCarriers};
 ghost use Rattle.ofdm.specs.Band.{ZeroBand};
-ghost use Rattle.complex.specs.Complex.{of32};
-ghost use Rattle.prbs.specs.Signs.{loaded, Step, signAfter, segmentSigns, bandSigns, edgeSign, pilotValue};
+ghost use Rattle.prbs.specs.Signs.{loaded, Step, signAfter, segmentSigns, bandSigns, edgeSign};
 ghost use Rattle.prbs.specs.Signs.{xor as Signs·xor};
 ghost use Rattle.prbs.specs.SignMap.{SignMap};
-use complex::C32;
 use ofdm::BandPlace;
 use ofdm::Segment;
 use params::Mode;
 use params::ModeNumber;
-
-// Pilot amplitude 4/3 (Tables 3-17 and 3-19).
-const PILOT_AMPLITUDE: f32 = 1.3333334;
 
 // The sign register of Figure 3-31: D1 to D11.
 pub struct Prbs {
@@ -116,18 +111,6 @@ pub fn edge_w(mode: Mode) -> u8
         Mode::M2 => 0,
         Mode::M3 => 0,
     }
-}
-
-// BPSK pilot value of W (Table 3-17): 1 is -4/3, 0 is +4/3.
-pub fn pilot_value(w: u8) -> C32
-    ensures { λ r. ⌜ of32 r ≡ pilotValue w ⌝ }
-{
-    let amplitude = if w == 0 {
-        PILOT_AMPLITUDE
-    } else {
-        -PILOT_AMPLITUDE
-    };
-    C32::new(amplitude, 0.0)
 }
 
 // Room for the signs of the largest band, all zeros.

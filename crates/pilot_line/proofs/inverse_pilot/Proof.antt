@@ -3,7 +3,7 @@
 use mathlib.Core.Path.{_≡_, refl}
 use borrow.Author.Tests.{eq-eqb, ne-eqb}
 use lib.Ieee.{binary32, ofBits, neg, div}
-use Rattle.prbs.specs.Signs.{pilotAmplitude}
+use Rattle.pilots.specs.Pilots.{pilotAmplitude}
 use Rattle.pilot_line.proofs.inverse_pilot.Statement.{statement}
 use Rattle.pilot_line.proofs.inverse_pilot.Tie as tie
 

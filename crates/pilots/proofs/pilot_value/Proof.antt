@@ -1,4 +1,4 @@
--- `prbs::pilot_value` meets its contract: the two cases of the test.
+-- `pilots::pilot_value` meets its contract: the two cases of the test.
 -- Assumes nothing.
 use mathlib.Core.Logic.{inl, inr}
 use mathlib.Core.Path.{_≡_, _∙_, refl}
@@ -6,10 +6,10 @@ use Prim.Native.Nat.{ℕ}
 use borrow.Author.Tests.{eq-eqb, ne-eqb}
 use lib.Ieee.{Float, neg, ofBits, binary32}
 use Rattle.complex.specs.Complex.{pair}
-use Rattle.prbs.specs.Signs.{pilotAmplitude, pilotValue}
+use Rattle.pilots.specs.Pilots.{pilotAmplitude, pilotValue}
 use borrow.Author.Needs.{needs}
-use Rattle.prbs.proofs.pilot_value.Statement.{statement}
-use Rattle.prbs.proofs.pilot_value.Tie as tie
+use Rattle.pilots.proofs.pilot_value.Statement.{statement}
+use Rattle.pilots.proofs.pilot_value.Tie as tie
 
 plus : (w : ℕ) (a : Float) → w ≡ 0 → a ≡ pilotAmplitude → pair a (ofBits binary32 0) ≡ pilotValue w
 plus w a h e = rw (e, eq-eqb w 0 h) refl

@@ -1,0 +1,2 @@
+pub mod Pilots
+pub mod Facts
