@@ -2,7 +2,7 @@
 // place in its segment, a segment's number, its place in the band and an FFT bin each count
 // something else, so each has a type; what leads from one to another is a function here.
 ghost use mathlib.Core.Path.{_≡_};
-ghost use Prim.Native.Nat.{_<_, _≤_, _+_, _*_};
+ghost use Prim.Native.Nat.{_<_, _≤_, _+_, _*_, _%_};
 ghost use Rattle.params.specs.Params.{modeFrom, carriersPerSegment, totalCarriers};
 ghost use Rattle.ofdm.specs.Band.{segmentAt, placeOf, firstCarrier, binOf, ZeroBand, BinLookedUp};
 use params::Mode;
@@ -69,6 +69,14 @@ pub fn carrier_bin(mode: Mode, k: BandCarrier) -> FftBin
     let n = mode.fft_size();
     let center = (mode.total_carriers() - 1) / 2;
     FftBin((k.0 + (n - center)) % n)
+}
+
+// A bin moved up by `up` bins, round the n bins of an FFT. The bounds keep the sum from wrapping.
+pub fn moved_up(bin: FftBin, up: usize, n: usize) -> FftBin
+    requires { ⌜ (0 < n) × (up ≤ 16384) × (bin .0 < 4294967296) ⌝ }
+    ensures { λ r. ⌜ r .0 ≡ (bin .0 + up) % n ⌝ }
+{
+    FftBin((bin.0 + up) % n)
 }
 
 // Room for a byte for each carrier of the largest band.

@@ -4,7 +4,7 @@
 // makes no sense, counts as a difference and ends the run.
 //
 // A new operation has a function here and a line in `check_call` or `check_value`; `OPERATIONS` counts it.
-ghost use Prim.Native.Nat.{_+_, _*_, _≤_, _<_};
+ghost use Prim.Native.Nat.{_≤_, _<_};
 ghost use mathlib.Core.Path.{_≡_};
 ghost use lib.ListN.{length};
 use libc::STDOUT_FILENO;

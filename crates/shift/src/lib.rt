@@ -2,7 +2,7 @@
 // pattern of AC1 carriers and the edge is laid over the ratios of all bins at every shift from -bound
 // to bound, and the greatest sum wins.
 ghost use mathlib.Core.Path.{_≡_};
-ghost use Prim.Native.Nat.{_+_, _%_, _≤_, _<_};
+ghost use Prim.Native.Nat.{_≤_};
 ghost use lib.ListN.{length};
 ghost use Rattle.params.specs.Params.{modeFrom};
 ghost use Rattle.shift.specs.Shift.{pattern, Shifted};
@@ -75,14 +75,6 @@ fn put_pattern(mode: Mode, out: &mut [u32]) -> usize
     at + 1
 }
 
-// A bin moved up by `up`, modulo n.
-fn moved_up(bin: FftBin, up: usize, n: usize) -> FftBin
-    requires { ⌜ Movable n up × (bin .0 < 4294967296) ⌝ }
-    ensures { λ r. ⌜ r .0 ≡ (bin .0 + up) % n ⌝ }
-{
-    FftBin((bin.0 + up) % n)
-}
-
 // The sum of the ratios at the pattern's bins, each moved up by `up` modulo the ratios' length.
 fn pattern_sum(bins: &[u32], ratios: &[f32], up: usize) -> f32
     requires { ⌜ Movable (length (now ratios)) up ⌝ }
@@ -93,7 +85,7 @@ fn pattern_sum(bins: &[u32], ratios: &[f32], up: usize) -> f32
     let mut i: usize = 0;
     while i < bins.len() {
         let bin = bins[i] as usize;
-        let moved = moved_up(FftBin(bin), up, n);
+        let moved = ofdm::moved_up(FftBin(bin), up, n);
         let at = moved.0;
         sum = sum + ratios[at];
         i += 1;

@@ -36,7 +36,8 @@ cast-bin c = omega (arith, c .shared-slice-known3 .given (c .before .before .loo
 moved-up-requires : tie.Need-moved-up-requires Inv-loop μ-loop
 moved-up-requires c κs =
     let l = c .before .before in
-    (l .before .before .before .pre, omega (arith, c .shared-slice-known3 .given (l .loop .i)))
+    let s = l .before .before .before in
+    (s .pre .some, s .pre .small, omega (arith, c .shared-slice-known3 .given (l .loop .i)))
 
 mul-sum : tie.Need-mul-sum Inv-loop μ-loop
 mul-sum c =
