@@ -3,7 +3,6 @@
 oracle=$(cd "$(dirname "${BASH_SOURCE[0]}")" && pwd)
 root=$(cd "$oracle/.." && pwd)
 library=$root/target/staticlib/libhost.a
-segments=$root/target/bin/segments
 programs=$root/target/oracle
 
 say() {
@@ -23,14 +22,19 @@ need_library() {
     fi
 }
 
+# A proved program, in target/bin.
+need_program() {
+    if stale "$root/target/bin/$1"; then
+        say "proving and building the program: rt check $1"
+        (cd "$root" && rt check "$1") >&2
+    fi
+}
+
 # The proved program segments. SILLURWY_SEGMENTS names another one.
 need_segments() {
     if [ -z "${SILLURWY_SEGMENTS:-}" ]; then
-        if stale "$segments"; then
-            say "proving and building the program: rt check segments"
-            (cd "$root" && rt check segments) >&2
-        fi
-        export SILLURWY_SEGMENTS=$segments
+        need_program segments
+        export SILLURWY_SEGMENTS=$root/target/bin/segments
     fi
 }
 

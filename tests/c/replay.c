@@ -1,11 +1,12 @@
 /* Calls every function of sillurwy.h from C and compares the answers with the stored ones, which
  * oracle/store wrote (oracle/README.md, "The stored answers", has the form of the file).
  *
- *   replay FILE [NAME]
+ *   replay FILE [NAME [DAMAGED]]
  *
- * It prints for each function how many calls were compared and how many differ. The exit status is
- * 1 if any differs, if the file cannot be read to its end, or if a function was not called. With a
- * function's name, the first of its stored answers is damaged: this must be found.
+ * It prints for each function, by its number, how many calls were compared and how many differ. The
+ * exit status is 1 if any differs, if the file cannot be read to its end, or if a function was not
+ * called. With a function's name, the first of its stored answers is damaged: this must be found.
+ * DAMAGED is where the damaged file is written, for other programs that read it.
  *
  * A new function has a name below and a line in `called`. */
 #include "sillurwy.h"
@@ -96,6 +97,14 @@ static void read_file(const char *name)
         fail("cannot read", name);
     }
     fclose(file);
+}
+
+static void write_file(const char *name)
+{
+    FILE *file = fopen(name, "wb");
+    if (file == NULL || fwrite(bytes, 1, size, file) != size || fclose(file) != 0) {
+        fail("cannot write", name);
+    }
 }
 
 static const uint8_t *take(size_t n)
@@ -393,13 +402,13 @@ static void detect_no_sp_phase(void)
 
 int main(int words, char **word)
 {
-    for (size_t i = 1; words == 3 && i < FUNCTIONS; i++) {
+    for (size_t i = 1; (words == 3 || words == 4) && i < FUNCTIONS; i++) {
         if (strcmp(names[i], word[2]) == 0) {
             damaged = i;
         }
     }
     if (words != 2 && damaged == NO_FUNCTION) {
-        fprintf(stderr, "usage: replay FILE [NAME]\n");
+        fprintf(stderr, "usage: replay FILE [NAME [DAMAGED]]\n");
         return 2;
     }
     read_file(word[1]);
@@ -408,6 +417,9 @@ int main(int words, char **word)
     }
     if (calls[DETECT_SP_PHASE] > 0) {
         detect_no_sp_phase();
+    }
+    if (words == 4) {
+        write_file(word[3]);
     }
     free(bytes);
 

@@ -359,9 +359,6 @@ fn check_lent(operation: u8, call: Call, bytes: &[u8], more_bytes: &[u8], floats
     check_call(operation, call, bytes, more_bytes, floats)
 }
 
-// The first operation that is a function of floats.
-const VALUES: u8 = 13;
-
 // Makes the call of a function of floats, of which the head has the number and the code.
 fn check_wide(head: &[u8; 22], floats: &[f32], a: u64, b: u64) -> Tally {
     let tally = Tally::new().expect(head[1] == 0);
@@ -379,10 +376,11 @@ fn check_longs(head: &[u8; 22], bytes: &[u8], more_bytes: &[u8], floats: &[f32])
     let Longs::Numbers(a, b) = replay::read_longs(short_size(head[21])) else {
         return broken();
     };
-    if VALUES <= head[0] {
-        return check_wide(head, floats, a, b);
+    let operation = head[0];
+    match operation {
+        13..=16 => check_wide(head, floats, a, b),
+        _ => check_lent(operation, call_of(head), bytes, more_bytes, floats),
     }
-    check_lent(head[0], call_of(head), bytes, more_bytes, floats)
 }
 
 // The lists follow the head: two of bytes (kinds, or modes and guards), and the floats, which have one

@@ -21,6 +21,7 @@ use std::hint::black_box;
 
 pub const OPERATION: Operation = Operation {
     name: "carrier_bin",
+    number: Some(1),
     part: "layout",
     streams: &[BinCall::STREAM],
     compare,

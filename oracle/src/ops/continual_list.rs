@@ -24,6 +24,7 @@ use std::hint::black_box;
 
 pub const OPERATION: Operation = Operation {
     name: "continual_list",
+    number: Some(5),
     part: "layout",
     streams: &[ContinualCall::STREAM],
     compare,

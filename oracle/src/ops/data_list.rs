@@ -24,6 +24,7 @@ use std::hint::black_box;
 
 pub const OPERATION: Operation = Operation {
     name: "data_list",
+    number: Some(4),
     part: "layout",
     streams: &[DataCall::STREAM],
     compare,

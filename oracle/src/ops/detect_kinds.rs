@@ -29,6 +29,7 @@ use std::hint::black_box;
 
 pub const OPERATION: Operation = Operation {
     name: "detect_kinds",
+    number: Some(9),
     part: "acquisition",
     streams: &[KindsCall::STREAM, KindsArguments::STREAM],
     compare,

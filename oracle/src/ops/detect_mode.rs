@@ -28,6 +28,7 @@ use std::fmt;
 
 pub const OPERATION: Operation = Operation {
     name: "detect_mode",
+    number: Some(7),
     part: "acquisition",
     streams: &[GuessCall::STREAM, GuessArguments::STREAM],
     compare,

@@ -29,6 +29,7 @@ use std::hint::black_box;
 
 pub const OPERATION: Operation = Operation {
     name: "detect_sp_phase",
+    number: Some(11),
     part: "acquisition",
     streams: &[PhaseCall::STREAM, PhaseArguments::STREAM],
     compare,

@@ -31,6 +31,7 @@ use std::hint::black_box;
 
 pub const OPERATION: Operation = Operation {
     name: "estimate_grid",
+    number: Some(12),
     part: "grid",
     streams: &[GridCall::STREAM],
     compare,

@@ -31,6 +31,7 @@ use std::hint::black_box;
 
 pub const OPERATION: Operation = Operation {
     name: "integer_cfo",
+    number: Some(8),
     part: "acquisition",
     streams: &[ShiftCall::STREAM, ShiftArguments::STREAM],
     compare,

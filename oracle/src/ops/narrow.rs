@@ -14,6 +14,7 @@ use sillurwy::ffi;
 
 pub const OPERATION: Operation = Operation {
     name: "narrow",
+    number: Some(14),
     part: "floats",
     streams: &[STREAM],
     compare,

@@ -14,6 +14,7 @@ use sillurwy::ffi;
 
 pub const OPERATION: Operation = Operation {
     name: "norm32",
+    number: Some(15),
     part: "floats",
     streams: &[STREAM],
     compare,

@@ -14,6 +14,7 @@ use sillurwy::ffi;
 
 pub const OPERATION: Operation = Operation {
     name: "norm64",
+    number: Some(16),
     part: "floats",
     streams: &[STREAM],
     compare,

@@ -24,6 +24,7 @@ use std::hint::black_box;
 
 pub const OPERATION: Operation = Operation {
     name: "role_map",
+    number: Some(2),
     part: "layout",
     streams: &[RoleCall::STREAM],
     compare,

@@ -14,6 +14,7 @@ use sillurwy::ffi;
 
 pub const OPERATION: Operation = Operation {
     name: "root",
+    number: Some(13),
     part: "floats",
     streams: &[STREAM],
     compare,

@@ -22,6 +22,7 @@ use std::hint::black_box;
 
 pub const OPERATION: Operation = Operation {
     name: "samples_needed",
+    number: Some(6),
     part: "acquisition",
     streams: &[NeededCall::STREAM],
     compare,

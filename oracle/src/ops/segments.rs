@@ -17,6 +17,7 @@ use std::io;
 /// It is not timed, and what it prints is stored beside it.
 pub const OPERATION: Operation = Operation {
     name: "segments",
+    number: None,
     part: "segments",
     streams: &[LINES, INPUTS],
     compare,

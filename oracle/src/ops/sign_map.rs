@@ -21,6 +21,7 @@ use std::hint::black_box;
 
 pub const OPERATION: Operation = Operation {
     name: "sign_map",
+    number: Some(3),
     part: "layout",
     streams: &[SignCall::STREAM],
     compare,

@@ -26,6 +26,7 @@ use std::hint::black_box;
 
 pub const OPERATION: Operation = Operation {
     name: "tmcc_soft",
+    number: Some(10),
     part: "acquisition",
     streams: &[TmccCall::STREAM],
     compare,
