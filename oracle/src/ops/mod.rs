@@ -132,8 +132,8 @@ mod tests {
 
     #[test]
     fn numbers_have_no_gap() {
-        let numbers = numbered().into_iter().map(|(number, _)| usize::from(number));
-        let numbers: Vec<usize> = numbers.collect();
+        let numbered = numbered().into_iter();
+        let numbers: Vec<usize> = numbered.map(|(number, _)| number.into()).collect();
         assert_eq!(numbers, (1..=numbers.len()).collect::<Vec<_>>());
     }
 
