@@ -51,7 +51,7 @@ const PLACES: [(&str, &str, &str); 10] = [
     ("a wrong port", "oracle/tests/mistakes/NAME.rs", "found("),
     (
         "a line",
-        "crates/replay_operations/src/main.rt",
+        "crates/replay_calls/src/lib.rt",
         "sillurwy_NAME(",
     ),
     ("a word", "README.md", "`sillurwy_NAME`"),
