@@ -40,21 +40,23 @@ fn defined() -> BTreeSet<String> {
 }
 
 /// What a function has, where, and what is found there; the last may be one of several.
-const PLACES: [(&str, &str, &str); 10] = [
+const PLACES: [(&str, &str, &str); 12] = [
     ("a wrapper", "host/src", "ffi::NAME("),
+    ("a line of the modules", "host/src/lib.rs", "::NAME)"),
     ("a case", "host/tests/stored.rs", "::NAME( or ::NAME_lent("),
     ("a call", "tests/c/replay.c", "sillurwy_NAME("),
     ("a call", "tests/c/fuzz.c", "sillurwy_NAME("),
     ("a target", "tests/c/fuzz.c", "{\"NAME\", NAME, "),
     ("its comparison", "oracle/src/ops/NAME.rs", "ffi::NAME"),
     ("a row", "oracle/src/ops/mod.rs", "NAME::OPERATION"),
-    ("a wrong port", "oracle/tests/mistakes/NAME.rs", "found("),
     (
-        "a line",
-        "crates/replay_calls/src/lib.rt",
-        "sillurwy_NAME(",
+        "a wrong port that must be found",
+        "oracle/tests/mistakes/NAME.rs",
+        "is_found::< or is_found_at_boundary::< or each_is_found(",
     ),
+    ("a line", "crates/replay_calls/src/lib.rt", "sillurwy_NAME("),
     ("a word", "README.md", "`sillurwy_NAME`"),
+    ("its stored calls", "oracle/README.md", "`NAME`"),
 ];
 
 #[test]
@@ -88,7 +90,10 @@ fn every_constant_of_the_header_has_its_line() {
             .any(|end| lines.contains(&format!("{name}{end}")))
     };
     let (held, missing): (Vec<&str>, Vec<&str>) = names.partition(held);
-    assert!(held.len() >= 30 && missing.is_empty(), "{missing:?}");
+    assert!(
+        held.len() >= 30 && missing.is_empty(),
+        "constants of {HEADER} without a line in tests/c/header.c: {missing:?}"
+    );
 }
 
 /// A directory that has copies of the three files, and in one of them one text for another.

