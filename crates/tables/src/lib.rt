@@ -7,10 +7,11 @@ mod standard;
 ghost use mathlib.Core.Path.{_≡_};
 ghost use Prim.Native.Nat.{_*_, _<_, _≤_};
 ghost use lib.ListN.{length, getD};
-ghost use Rattle.tables.specs.Rows.{carrierRandomize};
+ghost use Rattle.tables.specs.Rows.{diffAc1, diffAc2, diffTmcc, cohTmcc, carrierRandomize};
 ghost use Rattle.tables.specs.Places.{Listed, tmccOf, ac1Of, ac2Of, initOf};
-ghost use Rattle.tables.specs.Inner.{rowAt};
+ghost use Rattle.tables.specs.Inner.{laidOut, rowAt};
 ghost use Rattle.params.specs.Params.{dataCarriersPerSegment};
+ghost use Rattle.params.specs.declared.Mode.the-variants.{M1, M2, M3};
 use params::Mode;
 use params::SegmentKind;
 
@@ -45,6 +46,90 @@ fn row_of(table: &[u16], count: usize, row: usize) -> Positions
     copied(&table[start..start + count])
 }
 
+fn coh_tmcc_m1(row: usize) -> Positions
+    requires { ⌜ row < 13 ⌝ }
+    ensures { λ r. ⌜ Listed r (rowAt (laidOut (cohTmcc M1)) 1 row) ⌝ }
+{
+    row_of(&standard::COH_TMCC_M1, 1, row)
+}
+
+fn coh_tmcc_m2(row: usize) -> Positions
+    requires { ⌜ row < 13 ⌝ }
+    ensures { λ r. ⌜ Listed r (rowAt (laidOut (cohTmcc M2)) 2 row) ⌝ }
+{
+    row_of(&standard::COH_TMCC_M2, 2, row)
+}
+
+fn coh_tmcc_m3(row: usize) -> Positions
+    requires { ⌜ row < 13 ⌝ }
+    ensures { λ r. ⌜ Listed r (rowAt (laidOut (cohTmcc M3)) 4 row) ⌝ }
+{
+    row_of(&standard::COH_TMCC_M3, 4, row)
+}
+
+fn diff_tmcc_m1(row: usize) -> Positions
+    requires { ⌜ row < 13 ⌝ }
+    ensures { λ r. ⌜ Listed r (rowAt (laidOut (diffTmcc M1)) 5 row) ⌝ }
+{
+    row_of(&standard::DIFF_TMCC_M1, 5, row)
+}
+
+fn diff_tmcc_m2(row: usize) -> Positions
+    requires { ⌜ row < 13 ⌝ }
+    ensures { λ r. ⌜ Listed r (rowAt (laidOut (diffTmcc M2)) 10 row) ⌝ }
+{
+    row_of(&standard::DIFF_TMCC_M2, 10, row)
+}
+
+fn diff_tmcc_m3(row: usize) -> Positions
+    requires { ⌜ row < 13 ⌝ }
+    ensures { λ r. ⌜ Listed r (rowAt (laidOut (diffTmcc M3)) 20 row) ⌝ }
+{
+    row_of(&standard::DIFF_TMCC_M3, 20, row)
+}
+
+fn ac1_m1(row: usize) -> Positions
+    requires { ⌜ row < 13 ⌝ }
+    ensures { λ r. ⌜ Listed r (rowAt (laidOut (diffAc1 M1)) 2 row) ⌝ }
+{
+    row_of(&standard::AC1_M1, 2, row)
+}
+
+fn ac1_m2(row: usize) -> Positions
+    requires { ⌜ row < 13 ⌝ }
+    ensures { λ r. ⌜ Listed r (rowAt (laidOut (diffAc1 M2)) 4 row) ⌝ }
+{
+    row_of(&standard::AC1_M2, 4, row)
+}
+
+fn ac1_m3(row: usize) -> Positions
+    requires { ⌜ row < 13 ⌝ }
+    ensures { λ r. ⌜ Listed r (rowAt (laidOut (diffAc1 M3)) 8 row) ⌝ }
+{
+    row_of(&standard::AC1_M3, 8, row)
+}
+
+fn diff_ac2_m1(row: usize) -> Positions
+    requires { ⌜ row < 13 ⌝ }
+    ensures { λ r. ⌜ Listed r (rowAt (laidOut (diffAc2 M1)) 4 row) ⌝ }
+{
+    row_of(&standard::DIFF_AC2_M1, 4, row)
+}
+
+fn diff_ac2_m2(row: usize) -> Positions
+    requires { ⌜ row < 13 ⌝ }
+    ensures { λ r. ⌜ Listed r (rowAt (laidOut (diffAc2 M2)) 9 row) ⌝ }
+{
+    row_of(&standard::DIFF_AC2_M2, 9, row)
+}
+
+fn diff_ac2_m3(row: usize) -> Positions
+    requires { ⌜ row < 13 ⌝ }
+    ensures { λ r. ⌜ Listed r (rowAt (laidOut (diffAc2 M3)) 19 row) ⌝ }
+{
+    row_of(&standard::DIFF_AC2_M3, 19, row)
+}
+
 // TMCC places of a segment.
 pub fn tmcc_positions(mode: Mode, kind: SegmentKind, row: usize) -> Positions
     requires { ⌜ row < 13 ⌝ }
@@ -52,14 +137,14 @@ pub fn tmcc_positions(mode: Mode, kind: SegmentKind, row: usize) -> Positions
 {
     match kind {
         SegmentKind::Coherent => match mode {
-            Mode::M1 => row_of(&standard::COH_TMCC_M1, 1, row),
-            Mode::M2 => row_of(&standard::COH_TMCC_M2, 2, row),
-            Mode::M3 => row_of(&standard::COH_TMCC_M3, 4, row),
+            Mode::M1 => coh_tmcc_m1(row),
+            Mode::M2 => coh_tmcc_m2(row),
+            Mode::M3 => coh_tmcc_m3(row),
         },
         SegmentKind::Differential => match mode {
-            Mode::M1 => row_of(&standard::DIFF_TMCC_M1, 5, row),
-            Mode::M2 => row_of(&standard::DIFF_TMCC_M2, 10, row),
-            Mode::M3 => row_of(&standard::DIFF_TMCC_M3, 20, row),
+            Mode::M1 => diff_tmcc_m1(row),
+            Mode::M2 => diff_tmcc_m2(row),
+            Mode::M3 => diff_tmcc_m3(row),
         },
     }
 }
@@ -70,9 +155,9 @@ pub fn ac1_positions(mode: Mode, kind: SegmentKind, row: usize) -> Positions
     ensures { λ r. ⌜ Listed r (ac1Of mode kind row) ⌝ }
 {
     match mode {
-        Mode::M1 => row_of(&standard::AC1_M1, 2, row),
-        Mode::M2 => row_of(&standard::AC1_M2, 4, row),
-        Mode::M3 => row_of(&standard::AC1_M3, 8, row),
+        Mode::M1 => ac1_m1(row),
+        Mode::M2 => ac1_m2(row),
+        Mode::M3 => ac1_m3(row),
     }
 }
 
@@ -87,11 +172,32 @@ pub fn ac2_positions(mode: Mode, kind: SegmentKind, row: usize) -> Positions
             count: 0,
         },
         SegmentKind::Differential => match mode {
-            Mode::M1 => row_of(&standard::DIFF_AC2_M1, 4, row),
-            Mode::M2 => row_of(&standard::DIFF_AC2_M2, 9, row),
-            Mode::M3 => row_of(&standard::DIFF_AC2_M3, 19, row),
+            Mode::M1 => diff_ac2_m1(row),
+            Mode::M2 => diff_ac2_m2(row),
+            Mode::M3 => diff_ac2_m3(row),
         },
     }
+}
+
+fn init_m1(row: usize) -> u16
+    requires { ⌜ row < 13 ⌝ }
+    ensures { λ r. ⌜ r ≡ initOf M1 row ⌝ }
+{
+    standard::PRBS_INIT_M1[row]
+}
+
+fn init_m2(row: usize) -> u16
+    requires { ⌜ row < 13 ⌝ }
+    ensures { λ r. ⌜ r ≡ initOf M2 row ⌝ }
+{
+    standard::PRBS_INIT_M2[row]
+}
+
+fn init_m3(row: usize) -> u16
+    requires { ⌜ row < 13 ⌝ }
+    ensures { λ r. ⌜ r ≡ initOf M3 row ⌝ }
+{
+    standard::PRBS_INIT_M3[row]
 }
 
 // The sign register's first state in a segment, D1 in the highest of eleven bits.
@@ -100,10 +206,31 @@ pub fn prbs_segment_init(mode: Mode, row: usize) -> u16
     ensures { λ r. ⌜ r ≡ initOf mode row ⌝ }
 {
     match mode {
-        Mode::M1 => standard::PRBS_INIT_M1[row],
-        Mode::M2 => standard::PRBS_INIT_M2[row],
-        Mode::M3 => standard::PRBS_INIT_M3[row],
+        Mode::M1 => init_m1(row),
+        Mode::M2 => init_m2(row),
+        Mode::M3 => init_m3(row),
     }
+}
+
+fn randomize_m1(before: usize) -> u16
+    requires { ⌜ before < 96 ⌝ }
+    ensures { λ r. ⌜ r ≡ getD (carrierRandomize M1) before 0 ⌝ }
+{
+    standard::CARRIER_RANDOMIZE_M1[before]
+}
+
+fn randomize_m2(before: usize) -> u16
+    requires { ⌜ before < 192 ⌝ }
+    ensures { λ r. ⌜ r ≡ getD (carrierRandomize M2) before 0 ⌝ }
+{
+    standard::CARRIER_RANDOMIZE_M2[before]
+}
+
+fn randomize_m3(before: usize) -> u16
+    requires { ⌜ before < 384 ⌝ }
+    ensures { λ r. ⌜ r ≡ getD (carrierRandomize M3) before 0 ⌝ }
+{
+    standard::CARRIER_RANDOMIZE_M3[before]
 }
 
 // Where randomizing puts a data carrier of a segment.
@@ -112,8 +239,8 @@ pub fn carrier_randomize(mode: Mode, before: usize) -> u16
     ensures { λ r. ⌜ r ≡ getD (carrierRandomize mode) before 0 ⌝ }
 {
     match mode {
-        Mode::M1 => standard::CARRIER_RANDOMIZE_M1[before],
-        Mode::M2 => standard::CARRIER_RANDOMIZE_M2[before],
-        Mode::M3 => standard::CARRIER_RANDOMIZE_M3[before],
+        Mode::M1 => randomize_m1(before),
+        Mode::M2 => randomize_m2(before),
+        Mode::M3 => randomize_m3(before),
     }
 }

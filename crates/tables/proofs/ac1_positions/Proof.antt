@@ -25,61 +25,46 @@ of-either mode Differential row = refl
 enum-told : tie.Need-enum-told
 enum-told c = search needs
 
-slice-aggregate-row-of : tie.Need-slice-aggregate-row-of
-slice-aggregate-row-of c = search needs
-
-row-of-requires : tie.Need-row-of-requires
-row-of-requires c κs = search needs
+ac1-m1-requires : tie.Need-ac1-m1-requires
+ac1-m1-requires c κs = search needs
 
 enum-told-2 : tie.Need-enum-told-2
 enum-told-2 c = search needs
 
-slice-aggregate-row-of-2 : tie.Need-slice-aggregate-row-of-2
-slice-aggregate-row-of-2 c = search needs
-
-row-of-requires-2 : tie.Need-row-of-requires-2
-row-of-requires-2 c κs = search needs
+ac1-m2-requires : tie.Need-ac1-m2-requires
+ac1-m2-requires c κs = search needs
 
 enum-told-3 : tie.Need-enum-told-3
 enum-told-3 c = search needs
 
-slice-aggregate-row-of-3 : tie.Need-slice-aggregate-row-of-3
-slice-aggregate-row-of-3 c = search needs
-
-row-of-requires-3 : tie.Need-row-of-requires-3
-row-of-requires-3 c κs = search needs
+ac1-m3-requires : tie.Need-ac1-m3-requires
+ac1-m3-requires c κs = search needs
 
 returns : tie.Need-returns
 returns c =
-    let s = c .before .before .before .before in
-    rw (of-either _ _ _, c .before .before .enum-told .given .1)
-    (row-read (diffAc1 M1) 2 refl (s .args .row) (s .pre) (c .row-of .ensures))
+    rw (of-either _ _ _, c .before .enum-told .given .1)
+    (row-read (diffAc1 M1) 2 refl (c .before .before .before .args .row) (c .before .before .before .pre) (c .ac1-m1 .ensures))
 
 returns-2 : tie.Need-returns-2
 returns-2 c =
-    let s = c .before .before .before .before in
-    rw (of-either _ _ _, c .before .before .enum-told2 .given .1)
-    (row-read (diffAc1 M2) 4 refl (s .args .row) (s .pre) (c .row-of2 .ensures))
+    rw (of-either _ _ _, c .before .enum-told2 .given .1)
+    (row-read (diffAc1 M2) 4 refl (c .before .before .before .args .row) (c .before .before .before .pre) (c .ac1-m2 .ensures))
 
 returns-3 : tie.Need-returns-3
 returns-3 c =
-    let s = c .before .before .before .before in
-    rw (of-either _ _ _, c .before .before .enum-told3 .given .1)
-    (row-read (diffAc1 M3) 8 refl (s .args .row) (s .pre) (c .row-of3 .ensures))
+    rw (of-either _ _ _, c .before .enum-told3 .given .1)
+    (row-read (diffAc1 M3) 8 refl (c .before .before .before .args .row) (c .before .before .before .pre) (c .ac1-m3 .ensures))
 
 pub ac1-positions-spec : {M : Type 1} → statement M
 ac1-positions-spec =
     tie.close
     (tie.spec
     enum-told
-    slice-aggregate-row-of
-    row-of-requires
+    ac1-m1-requires
     enum-told-2
-    slice-aggregate-row-of-2
-    row-of-requires-2
+    ac1-m2-requires
     enum-told-3
-    slice-aggregate-row-of-3
-    row-of-requires-3
+    ac1-m3-requires
     returns
     returns-2
     returns-3)

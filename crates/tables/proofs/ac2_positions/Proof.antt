@@ -17,50 +17,38 @@ enum-told-2 c = search needs
 enum-told-3 : tie.Need-enum-told-3
 enum-told-3 c = search needs
 
-slice-aggregate-row-of : tie.Need-slice-aggregate-row-of
-slice-aggregate-row-of c = search needs
-
-row-of-requires : tie.Need-row-of-requires
-row-of-requires c κs = search needs
+diff-ac2-m1-requires : tie.Need-diff-ac2-m1-requires
+diff-ac2-m1-requires c κs = search needs
 
 enum-told-4 : tie.Need-enum-told-4
 enum-told-4 c = search needs
 
-slice-aggregate-row-of-2 : tie.Need-slice-aggregate-row-of-2
-slice-aggregate-row-of-2 c = search needs
-
-row-of-requires-2 : tie.Need-row-of-requires-2
-row-of-requires-2 c κs = search needs
+diff-ac2-m2-requires : tie.Need-diff-ac2-m2-requires
+diff-ac2-m2-requires c κs = search needs
 
 enum-told-5 : tie.Need-enum-told-5
 enum-told-5 c = search needs
 
-slice-aggregate-row-of-3 : tie.Need-slice-aggregate-row-of-3
-slice-aggregate-row-of-3 c = search needs
-
-row-of-requires-3 : tie.Need-row-of-requires-3
-row-of-requires-3 c κs = search needs
+diff-ac2-m3-requires : tie.Need-diff-ac2-m3-requires
+diff-ac2-m3-requires c κs = search needs
 
 returns : tie.Need-returns
 returns c = search needs
 
 returns-2 : tie.Need-returns-2
 returns-2 c =
-    let s = c .before .before .before .before .before .before in
-    rw (c .before .before .before .before .enum-told2 .given .1, c .before .before .enum-told3 .given .1)
-    (row-read (diffAc2 M1) 4 refl (s .args .row) (s .pre) (c .row-of .ensures))
+    rw (c .before .before .before .enum-told2 .given .1, c .before .enum-told3 .given .1)
+    (row-read (diffAc2 M1) 4 refl (c .before .before .before .before .before .args .row) (c .before .before .before .before .before .pre) (c .diff-ac2-m1 .ensures))
 
 returns-3 : tie.Need-returns-3
 returns-3 c =
-    let s = c .before .before .before .before .before .before in
-    rw (c .before .before .before .before .enum-told2 .given .1, c .before .before .enum-told4 .given .1)
-    (row-read (diffAc2 M2) 9 refl (s .args .row) (s .pre) (c .row-of2 .ensures))
+    rw (c .before .before .before .enum-told2 .given .1, c .before .enum-told4 .given .1)
+    (row-read (diffAc2 M2) 9 refl (c .before .before .before .before .before .args .row) (c .before .before .before .before .before .pre) (c .diff-ac2-m2 .ensures))
 
 returns-4 : tie.Need-returns-4
 returns-4 c =
-    let s = c .before .before .before .before .before .before in
-    rw (c .before .before .before .before .enum-told2 .given .1, c .before .before .enum-told5 .given .1)
-    (row-read (diffAc2 M3) 19 refl (s .args .row) (s .pre) (c .row-of3 .ensures))
+    rw (c .before .before .before .enum-told2 .given .1, c .before .enum-told5 .given .1)
+    (row-read (diffAc2 M3) 19 refl (c .before .before .before .before .before .args .row) (c .before .before .before .before .before .pre) (c .diff-ac2-m3 .ensures))
 
 pub ac2-positions-spec : {M : Type 1} → statement M
 ac2-positions-spec =
@@ -69,14 +57,11 @@ ac2-positions-spec =
     enum-told
     enum-told-2
     enum-told-3
-    slice-aggregate-row-of
-    row-of-requires
+    diff-ac2-m1-requires
     enum-told-4
-    slice-aggregate-row-of-2
-    row-of-requires-2
+    diff-ac2-m2-requires
     enum-told-5
-    slice-aggregate-row-of-3
-    row-of-requires-3
+    diff-ac2-m3-requires
     returns
     returns-2
     returns-3
