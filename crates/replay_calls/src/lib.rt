@@ -1,7 +1,7 @@
-// The calls that stored records ask for: each is made of the C library's function, and what it returns
-// and every entry that was lent to be written are compared with what stands in the record
-// (oracle/README.md, "The stored answers", has the form). It stands apart from the program that reads
-// record after record, which a new operation does not touch.
+// Makes the call that a stored record asks for, and compares what the C library's function returns and
+// every entry that was lent to be written with what stands in the record (oracle/README.md, "The
+// stored answers", has the form). The program that reads record after record stands apart: a new
+// operation does not touch it.
 //
 // A new operation has a function here and a line in `check_call` or `check_value`; `OPERATIONS` counts it.
 ghost use Prim.Native.Nat.{_≤_, _<_};
