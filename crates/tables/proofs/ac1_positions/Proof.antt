@@ -42,18 +42,21 @@ ac1-m3-requires c κs = search needs
 
 returns : tie.Need-returns
 returns c =
+    let s = c .before .before .before in
     rw (of-either _ _ _, c .before .enum-told .given .1)
-    (row-read (diffAc1 M1) 2 refl (c .before .before .before .args .row) (c .before .before .before .pre) (c .ac1-m1 .ensures))
+    (row-read (diffAc1 M1) 2 refl (s .args .row) (s .pre) (c .ac1-m1 .ensures))
 
 returns-2 : tie.Need-returns-2
 returns-2 c =
+    let s = c .before .before .before in
     rw (of-either _ _ _, c .before .enum-told2 .given .1)
-    (row-read (diffAc1 M2) 4 refl (c .before .before .before .args .row) (c .before .before .before .pre) (c .ac1-m2 .ensures))
+    (row-read (diffAc1 M2) 4 refl (s .args .row) (s .pre) (c .ac1-m2 .ensures))
 
 returns-3 : tie.Need-returns-3
 returns-3 c =
+    let s = c .before .before .before in
     rw (of-either _ _ _, c .before .enum-told3 .given .1)
-    (row-read (diffAc1 M3) 8 refl (c .before .before .before .args .row) (c .before .before .before .pre) (c .ac1-m3 .ensures))
+    (row-read (diffAc1 M3) 8 refl (s .args .row) (s .pre) (c .ac1-m3 .ensures))
 
 pub ac1-positions-spec : {M : Type 1} → statement M
 ac1-positions-spec =

@@ -37,18 +37,21 @@ returns c = search needs
 
 returns-2 : tie.Need-returns-2
 returns-2 c =
+    let s = c .before .before .before .before .before in
     rw (c .before .before .before .enum-told2 .given .1, c .before .enum-told3 .given .1)
-    (row-read (diffAc2 M1) 4 refl (c .before .before .before .before .before .args .row) (c .before .before .before .before .before .pre) (c .diff-ac2-m1 .ensures))
+    (row-read (diffAc2 M1) 4 refl (s .args .row) (s .pre) (c .diff-ac2-m1 .ensures))
 
 returns-3 : tie.Need-returns-3
 returns-3 c =
+    let s = c .before .before .before .before .before in
     rw (c .before .before .before .enum-told2 .given .1, c .before .enum-told4 .given .1)
-    (row-read (diffAc2 M2) 9 refl (c .before .before .before .before .before .args .row) (c .before .before .before .before .before .pre) (c .diff-ac2-m2 .ensures))
+    (row-read (diffAc2 M2) 9 refl (s .args .row) (s .pre) (c .diff-ac2-m2 .ensures))
 
 returns-4 : tie.Need-returns-4
 returns-4 c =
+    let s = c .before .before .before .before .before in
     rw (c .before .before .before .enum-told2 .given .1, c .before .enum-told5 .given .1)
-    (row-read (diffAc2 M3) 19 refl (c .before .before .before .before .before .args .row) (c .before .before .before .before .before .pre) (c .diff-ac2-m3 .ensures))
+    (row-read (diffAc2 M3) 19 refl (s .args .row) (s .pre) (c .diff-ac2-m3 .ensures))
 
 pub ac2-positions-spec : {M : Type 1} → statement M
 ac2-positions-spec =

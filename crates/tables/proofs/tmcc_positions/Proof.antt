@@ -52,33 +52,39 @@ diff-tmcc-m3-requires c κs = search needs
 
 returns : tie.Need-returns
 returns c =
+    let s = c .before .before .before .before .before in
     rw (c .before .before .before .enum-told .given .1, c .before .enum-told2 .given .1)
-    (row-read (cohTmcc M1) 1 refl (c .before .before .before .before .before .args .row) (c .before .before .before .before .before .pre) (c .coh-tmcc-m1 .ensures))
+    (row-read (cohTmcc M1) 1 refl (s .args .row) (s .pre) (c .coh-tmcc-m1 .ensures))
 
 returns-2 : tie.Need-returns-2
 returns-2 c =
+    let s = c .before .before .before .before .before in
     rw (c .before .before .before .enum-told .given .1, c .before .enum-told3 .given .1)
-    (row-read (cohTmcc M2) 2 refl (c .before .before .before .before .before .args .row) (c .before .before .before .before .before .pre) (c .coh-tmcc-m2 .ensures))
+    (row-read (cohTmcc M2) 2 refl (s .args .row) (s .pre) (c .coh-tmcc-m2 .ensures))
 
 returns-3 : tie.Need-returns-3
 returns-3 c =
+    let s = c .before .before .before .before .before in
     rw (c .before .before .before .enum-told .given .1, c .before .enum-told4 .given .1)
-    (row-read (cohTmcc M3) 4 refl (c .before .before .before .before .before .args .row) (c .before .before .before .before .before .pre) (c .coh-tmcc-m3 .ensures))
+    (row-read (cohTmcc M3) 4 refl (s .args .row) (s .pre) (c .coh-tmcc-m3 .ensures))
 
 returns-4 : tie.Need-returns-4
 returns-4 c =
+    let s = c .before .before .before .before .before in
     rw (c .before .before .before .enum-told5 .given .1, c .before .enum-told6 .given .1)
-    (row-read (diffTmcc M1) 5 refl (c .before .before .before .before .before .args .row) (c .before .before .before .before .before .pre) (c .diff-tmcc-m1 .ensures))
+    (row-read (diffTmcc M1) 5 refl (s .args .row) (s .pre) (c .diff-tmcc-m1 .ensures))
 
 returns-5 : tie.Need-returns-5
 returns-5 c =
+    let s = c .before .before .before .before .before in
     rw (c .before .before .before .enum-told5 .given .1, c .before .enum-told7 .given .1)
-    (row-read (diffTmcc M2) 10 refl (c .before .before .before .before .before .args .row) (c .before .before .before .before .before .pre) (c .diff-tmcc-m2 .ensures))
+    (row-read (diffTmcc M2) 10 refl (s .args .row) (s .pre) (c .diff-tmcc-m2 .ensures))
 
 returns-6 : tie.Need-returns-6
 returns-6 c =
+    let s = c .before .before .before .before .before in
     rw (c .before .before .before .enum-told5 .given .1, c .before .enum-told8 .given .1)
-    (row-read (diffTmcc M3) 20 refl (c .before .before .before .before .before .args .row) (c .before .before .before .before .before .pre) (c .diff-tmcc-m3 .ensures))
+    (row-read (diffTmcc M3) 20 refl (s .args .row) (s .pre) (c .diff-tmcc-m3 .ensures))
 
 pub tmcc-positions-spec : {M : Type 1} → statement M
 tmcc-positions-spec =
