@@ -40,7 +40,7 @@ fn defined() -> BTreeSet<String> {
 }
 
 /// What a function has, where, and what is found there; the last may be one of several.
-const PLACES: [(&str, &str, &str); 12] = [
+const PLACES: [(&str, &str, &str); 13] = [
     ("a wrapper", "host/src", "ffi::NAME("),
     ("a line of the modules", "host/src/lib.rs", "::NAME)"),
     ("a case", "host/tests/stored.rs", "::NAME( or ::NAME_lent("),
@@ -54,6 +54,7 @@ const PLACES: [(&str, &str, &str); 12] = [
         "oracle/tests/mistakes/NAME.rs",
         "is_found::< or is_found_at_boundary::< or each_is_found(",
     ),
+    ("a `mod` line", "oracle/tests/mistakes/main.rs", "\nmod NAME;"),
     ("a line", "crates/replay_calls/src/lib.rt", "sillurwy_NAME("),
     ("a word", "README.md", "`sillurwy_NAME`"),
     ("its stored calls", "oracle/README.md", "`NAME`"),

@@ -1,6 +1,6 @@
 // Roles of carriers, after frame.rs of isdb-rs (ARIB STD-B31, 3.12 and 3.14): what each carrier of a
-// segment and of the band carries. The sign register of the same file is the crate prbs, its lists
-// of carriers are the crate carrier_lists.
+// segment and of the band carries. The sign register of the same file is the crate prbs, the value of
+// a pilot the crate pilots, its lists of carriers are the crate carrier_lists.
 //
 // Carriers of a segment are counted from its lowest frequency, 0 to c - 1; those of the band from
 // carrier 0 of segment 11, the lowest place, up to the edge carrier above segment 12.

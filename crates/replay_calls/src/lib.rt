@@ -3,7 +3,8 @@
 // stored answers", has the form). The program that reads record after record stands apart: a new
 // operation does not touch it.
 //
-// A new operation has a function here and a line in `check_call` or `check_value`; `OPERATIONS` counts it.
+// A new operation has a function here and a line in `check_call`; a function of floats has its line in
+// `check_value`, and its number in `check_longs`, which tells the two apart. `OPERATIONS` counts it.
 ghost use Prim.Native.Nat.{_≤_, _<_};
 ghost use mathlib.Core.Path.{_≡_};
 ghost use lib.ListN.{length};
