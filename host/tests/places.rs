@@ -54,7 +54,11 @@ const PLACES: [(&str, &str, &str); 13] = [
         "oracle/tests/mistakes/NAME.rs",
         "is_found::< or is_found_at_boundary::< or each_is_found(",
     ),
-    ("a `mod` line", "oracle/tests/mistakes/main.rs", "\nmod NAME;"),
+    (
+        "a `mod` line",
+        "oracle/tests/mistakes/main.rs",
+        "\nmod NAME;",
+    ),
     ("a line", "crates/replay_calls/src/lib.rt", "sillurwy_NAME("),
     ("a word", "README.md", "`sillurwy_NAME`"),
     ("its stored calls", "oracle/README.md", "`NAME`"),
