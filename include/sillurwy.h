@@ -69,6 +69,12 @@ enum sillurwy_filter {
     SILLURWY_FILTER_ALL = 2
 };
 
+/* The synchronising words of a frame (ARIB STD-B31), bit B1 first. */
+enum sillurwy_sync_word {
+    SILLURWY_W0 = 0, /* 0011010111101110 */
+    SILLURWY_W1 = 1  /* its complement, 1100101000010001 */
+};
+
 /* ---- Sizes. A macro over a mode gives 0 for a number that is no mode. ---- */
 
 #define SILLURWY_BY_MODE(mode, one, two, three) \
@@ -211,6 +217,18 @@ uint8_t sillurwy_detect_sp_phase(uint8_t mode, const uint8_t *kinds, size_t kind
                                  const float *spectra, size_t spectra_len, uint8_t *found,
                                  uint8_t *phase, float *share, uint32_t counts[SILLURWY_PHASES],
                                  uint32_t *lead);
+
+/* A frame start: a place in a list of soft TMCC values at which sixteen of them spell one of the two
+ * synchronising words. A value below zero reads as bit 1, every other as 0: NaN, -0.0 and +0.0 too.
+ *   soft   the values in the order of their symbols, any number of them, none too
+ *   found  1 if there is such a place, 0 if there is none; then start and word keep their contents
+ *   start  the index of the word's first value, from 0: values start to start + 15 spell the word.
+ *          Where there are several such places, any of them may be given. Where value j is
+ *          sillurwy_tmcc_soft of spectra j and j + 1, spectrum `start` is the first of the frame
+ *   word   which one it is: enum sillurwy_sync_word
+ * Nothing is refused: it always returns 0. */
+uint8_t sillurwy_frame_start(const float *soft, size_t soft_len, uint8_t *found, size_t *start,
+                             uint8_t *word);
 
 /* ---- The channel. Floats are real and imaginary part in turn. ---- */
 

@@ -96,6 +96,13 @@ mod c {
             counts: *mut [u32; 4],
             lead: *mut u32,
         ) -> u8;
+        pub fn sillurwy_frame_start(
+            soft: *const f32,
+            soft_len: usize,
+            found: *mut u8,
+            start: *mut usize,
+            word: *mut u8,
+        ) -> u8;
         pub fn sillurwy_estimate_grid(
             mode: u8,
             phase: u8,
@@ -335,6 +342,16 @@ pub fn detect_sp_phase(
             lead,
         )
     }
+}
+
+/// A start at which soft TMCC values spell a synchronising word: whether there is one, then the start and
+/// the word's code. Where there is none, what was lent for start and word stays as it was. Nothing is
+/// refused.
+#[inline]
+pub fn frame_start(soft: &[f32], found: &mut u8, start: &mut usize, word: &mut u8) -> u8 {
+    // SAFETY: whole slices with their lengths, numbers, which live through the call; nobody else
+    // borrows what is written. The function keeps no pointer and asks for nothing more.
+    unsafe { c::sillurwy_frame_start(soft.as_ptr(), soft.len(), found, start, word) }
 }
 
 /// The channel at the points of the grid.

@@ -15,6 +15,7 @@
 //! | [`segment_kinds`] | [`detect_kinds`](segment_kinds::detect_kinds) |
 //! | [`tmcc`] | [`tmcc_soft`](tmcc::tmcc_soft) |
 //! | [`pilot_phase`] | [`detect_sp_phase`](pilot_phase::detect_sp_phase) |
+//! | [`frame_start`] | [`frame_start`](frame_start::frame_start) |
 //! | [`chanest`] | [`estimate_grid`](chanest::estimate_grid) |
 //! | [`ieee`] | [`root`](ieee::root), [`narrow`](ieee::narrow) |
 //! | [`complex`] | [`norm32`](complex::norm32), [`norm64`](complex::norm64) |
@@ -48,6 +49,7 @@ pub mod complex;
 #[doc(hidden)]
 pub mod ffi;
 pub mod frame;
+pub mod frame_start;
 pub mod guess;
 pub mod ieee;
 pub mod ofdm;

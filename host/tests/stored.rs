@@ -4,15 +4,15 @@ use sillurwy::frame::CarrierRole;
 use sillurwy::params::{kinds_from_codes, GuardInterval, Mode, Phase, SegmentKind};
 use sillurwy::pilot_phase::PilotPhase;
 use sillurwy::{
-    carrier_lists, chanest, complex, frame, guess, ieee, ofdm, pilot_phase, prbs, segment_kinds,
-    shift, tmcc, Refusal,
+    carrier_lists, chanest, complex, frame, frame_start, guess, ieee, ofdm, pilot_phase, prbs,
+    segment_kinds, shift, tmcc, Refusal,
 };
 use std::array::from_fn;
 use std::fs;
 use std::path::Path;
 
 /// The operations, by their numbers, which count from 1; how many things each is lent to be written.
-const OPERATIONS: [(&str, usize); 16] = [
+const OPERATIONS: [(&str, usize); 17] = [
     ("carrier_bin", 1),
     ("role_map", 1),
     ("sign_map", 1),
@@ -29,6 +29,7 @@ const OPERATIONS: [(&str, usize); 16] = [
     ("narrow", 1),
     ("norm32", 1),
     ("norm64", 1),
+    ("frame_start", 3),
 ];
 
 /// What is not read yet of the stored answers.
@@ -294,6 +295,16 @@ fn call(name: &str, record: &Record) -> Result<Answer, Refusal> {
         "narrow" => (0, vec![one(Some(ieee::narrow(wide(0))))]),
         "norm32" => (0, vec![one(Some(complex::norm32(floats[0], floats[1])))]),
         "norm64" => (0, vec![one(Some(complex::norm64(wide(0), wide(1))))]),
+        "frame_start" => {
+            let given = frame_start::frame_start(floats);
+            let (found, start) = (given.ok(), given.ok().flatten());
+            let lent = [
+                one(found.map(|start| u8::from(start.is_some()))),
+                one(start.map(|start| start.start)),
+                one(start.map(|start| start.word.code())),
+            ];
+            answer(given, lent)
+        }
         name => panic!("{name} has no case"),
     })
 }

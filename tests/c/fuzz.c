@@ -202,8 +202,8 @@ static struct codes some_guards(struct bytes *in)
     return a_list(in, "guards", a_byte(in) % 6, good, 1 + a_byte(in) % 4);
 }
 
-/* Floats to be read, of one of several sorts. */
-static const float *some_floats(struct bytes *in, const char *name, size_t len)
+/* The bits of floats to be read, of one of several sorts. */
+static uint32_t *some_float_bits(struct bytes *in, const char *name, size_t len)
 {
     static const uint32_t special[] = {0x00000000, 0x80000000, 0x3f800000, 0xbf800000, 0x00000001,
                                        0x007fffff, 0x00800000, 0x7f7fffff, 0xff7fffff, 0x7f800000,
@@ -227,7 +227,12 @@ static const float *some_floats(struct bytes *in, const char *name, size_t len)
         default: at[i] = (any & 0x03ffffff) | 0x3e000000 | (any & 0x80000000); break;
         }
     }
-    return (const float *)at;
+    return at;
+}
+
+static const float *some_floats(struct bytes *in, const char *name, size_t len)
+{
+    return (const float *)some_float_bits(in, name, len);
 }
 
 /* How many floats: mostly a few whole spectra of `pairs` pairs, seldom 1,024 of them or more. */
@@ -603,6 +608,101 @@ static void detect_sp_phase(struct bytes *in)
     }
 }
 
+/* The synchronising words by their codes, bit B1 first. */
+enum { WORD_BITS = 16, WORDS = 2 };
+static const char *const sync_words[WORDS] = {"0011010111101110", "1100101000010001"};
+
+/* True if a soft value reads as bit 1. */
+static bool is_one(uint32_t bits)
+{
+    float value;
+    memcpy(&value, &bits, sizeof value);
+    return value < 0;
+}
+
+static bool spells(const uint32_t *soft, const char *word)
+{
+    for (size_t i = 0; i < WORD_BITS; i++) {
+        if (is_one(soft[i]) != (word[i] == '1')) {
+            return false;
+        }
+    }
+    return true;
+}
+
+/* The code of the word that sixteen soft values spell, or WORDS. */
+static uint8_t word_spelt(const uint32_t *soft)
+{
+    uint8_t word = 0;
+    while (word < WORDS && !spells(soft, sync_words[word])) {
+        word++;
+    }
+    return word;
+}
+
+/* True if a word is spelt anywhere in a list of soft values. */
+static bool has_word(const uint32_t *soft, size_t len)
+{
+    for (size_t i = 0; i + WORD_BITS <= len; i++) {
+        if (word_spelt(soft + i) < WORDS) {
+            return true;
+        }
+    }
+    return false;
+}
+
+/* Spells a word in a list of soft values: first in it, last or anywhere, also cut off where the list
+ * begins or ends. One word of four has a wrong bit. */
+static void spell_word(struct bytes *in, uint32_t *soft, size_t len)
+{
+    /* Values that read as 1, and as 0: among these are both zeros, and NaNs of both signs. */
+    static const uint32_t ones[] = {0xbf800000, 0x80000001, 0xff7fffff, 0xff800000};
+    static const uint32_t zeros[] = {0x3f800000, 0x00000001, 0x7f800000, 0x00000000,
+                                     0x80000000, 0x7fc00000, 0xffc00000, 0xff800001};
+    const char *word = sync_words[a_byte(in) % WORDS];
+    uint8_t place = a_byte(in) % 4;
+    /* The index behind the word. */
+    size_t end = place == 0 ? WORD_BITS : place == 1 ? len : 1 + below(in, len + WORD_BITS - 1);
+    uint8_t wrong = a_byte(in) % 64;
+    for (size_t i = 0; i < WORD_BITS; i++) {
+        uint8_t byte = a_byte(in);
+        bool one = (word[i] == '1') != (i == wrong);
+        if (end + i >= WORD_BITS && end + i - WORD_BITS < len) {
+            soft[end + i - WORD_BITS] = one ? ones[byte % 4] : zeros[byte % 8];
+        }
+    }
+}
+
+/* How many soft values: mostly up to 60, else up to some hundreds. */
+static size_t some_values(struct bytes *in)
+{
+    uint8_t byte = a_byte(in);
+    return byte < 232 ? byte % 61 : below(in, 700);
+}
+
+static void frame_start(struct bytes *in)
+{
+    size_t len = some_values(in);
+    uint32_t *soft = some_float_bits(in, "soft", len);
+    /* No word, one or two: the later one may lie across the earlier. */
+    for (size_t i = a_byte(in) % 3; i > 0; i--) {
+        spell_word(in, soft, len);
+    }
+    uint8_t *found = a_buffer(in, "found", 1, 1);
+    size_t *start = a_buffer(in, "start", 1, sizeof *start);
+    uint8_t *word = a_buffer(in, "word", 1, 1);
+    lent_ready();
+    accepted(sillurwy_frame_start((const float *)soft, len, found, start, word), 0);
+    must(*found == (has_word(soft, len) ? 1 : 0), "found");
+    if (*found == 1) {
+        must(*start <= len - WORD_BITS && word_spelt(soft + *start) < WORDS, "start");
+        must(*word == word_spelt(soft + *start), "word");
+    } else {
+        must_keep(start, sizeof *start, "start");
+        must_keep(word, sizeof *word, "word");
+    }
+}
+
 /* True for the points of a coherent segment and for the one that closes it. */
 static bool is_estimated(uint8_t mode, const uint8_t *kinds, size_t point)
 {
@@ -721,6 +821,7 @@ static const struct target targets[] = {
     {"detect_kinds", detect_kinds, 2},
     {"tmcc_soft", tmcc_soft, 5},
     {"detect_sp_phase", detect_sp_phase, 2},
+    {"frame_start", frame_start, 50},
     {"estimate_grid", estimate_grid, 2},
     {"root", root, 200},
     {"narrow", narrow, 200},

@@ -35,6 +35,8 @@ HOLDS(edge, SILLURWY_EDGE == 6);
 HOLDS(filter_coherent, SILLURWY_FILTER_COHERENT == 0);
 HOLDS(filter_differential, SILLURWY_FILTER_DIFFERENTIAL == 1);
 HOLDS(filter_all, SILLURWY_FILTER_ALL == 2);
+HOLDS(w0, SILLURWY_W0 == 0);
+HOLDS(w1, SILLURWY_W1 == 1);
 
 /* Sizes. */
 HOLDS(segments, SILLURWY_SEGMENTS == 13);

@@ -33,7 +33,8 @@
     LINE(ROOT, "root")                       \
     LINE(NARROW, "narrow")                   \
     LINE(NORM32, "norm32")                   \
-    LINE(NORM64, "norm64")
+    LINE(NORM64, "norm64")                   \
+    LINE(FRAME_START, "frame_start")
 
 #define NUMBER(number, name) number,
 #define NAME(number, name) name,
@@ -277,6 +278,8 @@ static uint8_t called(size_t function, struct call *c)
     case NARROW: *f32s(c, 0, 1) = sillurwy_narrow(c->wide[0]); return 0;
     case NORM32: *f32s(c, 0, 1) = sillurwy_norm32(in[0], in[1]); return 0;
     case NORM64: *f64s(c, 0, 1) = sillurwy_norm64(c->wide[0], c->wide[1]); return 0;
+    case FRAME_START:
+        return sillurwy_frame_start(in, in_len, u8s(c, 0, 1), sizes(c, 1, 1), u8s(c, 2, 1));
     default: fail("has a function that is not known", file_name);
     }
     return 0;

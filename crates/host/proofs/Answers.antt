@@ -3,7 +3,7 @@
 use Prim.Native.Nat.{ℕ}
 use mathlib.Core.Bool.{cond}
 use mathlib.Core.List.{List}
-use mathlib.Core.Path.{_≡_, sym, ap, _∙_}
+use mathlib.Core.Path.{_≡_, refl, sym, ap, _∙_, subst}
 use borrow.Author.Tests.{eq-eqb, ne-eqb}
 use lib.Dec.{eqb}
 use lib.IntN.{ℤ}
@@ -22,9 +22,11 @@ use Rattle.tmcc.specs.Tmcc.{softNumber, softGiven}
 use Rattle.pilot_phase.specs.declared.PhaseAnswer.{PhaseAnswer}
 use Rattle.pilot_phase.specs.declared.PilotAnswer.{PilotAnswer}
 use Rattle.pilot_phase.specs.PilotPhase.{PhaseDetected, phaseNumber, pilotsGiven, phaseGiven, shareGiven, besideGiven}
+use Rattle.frame_start.specs.declared.FrameStart.{FrameStart}
+use Rattle.frame_start.specs.FrameStart.{StartTold, startFound, startGiven, wordGiven}
 use Rattle.shift.specs.declared.ShiftAnswer.{ShiftAnswer}
 use Rattle.shift.specs.Shift.{Shifted, shiftNumber, shiftGiven}
-use Rattle.host.specs.Host.{CarrierBin, ContinualCount, ShiftLent, SamplesLent, GuessLent, SoftLent, PhaseLent}
+use Rattle.host.specs.Host.{CarrierBin, ContinualCount, ShiftLent, SamplesLent, GuessLent, SoftLent, PhaseLent, StartLent}
 
 -- ---- an answer that is a struct with its number
 pub kept : {A : Type 0} (r code : ℕ) (x y : A) → r ≡ code → (r ≡ 0 → ⊥) → y ≡ cond (eqb code 0) x y
@@ -89,3 +91,9 @@ phase-told f p s cs l h e =
       counts = λ i. besideGiven (q i) (h .counts i) cs;
       lead = λ i. besideGiven (q i) (h .lead i) l;
     }
+
+-- the word's code is a value of its own
+pub start-told : {soft : List Float} {r a : FrameStart} (s w : ℕ) {w' : ℕ} → StartTold soft r → r ≡ a → w' ≡ wordGiven a w
+    → StartLent soft s w 0 (startFound a) (startGiven a s) w'
+start-told {soft} {r} {a} s w t e q =
+    record { answer = a; told = subst (StartTold soft) e t; code = refl; found = refl; start = refl; word = q }

@@ -20,6 +20,8 @@ use Rattle.tmcc.specs.declared.SoftTmcc.{SoftTmcc}
 use Rattle.tmcc.specs.Tmcc.{softNumber, softGiven}
 use Rattle.winner.specs.Winner.{leadOf}
 use Rattle.pilot_phase.specs.PilotPhase.{phaseAnswer, phaseNumber, pilotsGiven, phaseGiven, shareGiven, besideGiven, countsAnswer}
+use Rattle.frame_start.specs.declared.FrameStart.{FrameStart}
+use Rattle.frame_start.specs.FrameStart.{StartTold, startFound, startGiven, wordGiven}
 use Rattle.segment_kinds.specs.SegmentKinds.{kindsCode, kindsAnswer, scoresAnswer, kindsLeaves}
 use Rattle.shift.specs.Shift.{shiftAnswer, shiftLeaves, shiftNumber, shiftGiven}
 
@@ -82,3 +84,12 @@ pub record PhaseLent (mode : ModeNumber) (kinds : List ℕ) (xs : List Float) (f
   pub share : s' ≡ shareGiven (phaseAnswer mode kinds xs) s
   pub counts : cs' ≡ besideGiven (phaseAnswer mode kinds xs) (countsAnswer mode kinds xs) cs
   pub lead : l' ≡ besideGiven (phaseAnswer mode kinds xs) (leadOf (countsAnswer mode kinds xs)) l
+
+-- ---- the frame start: s and w are lent for the start and its word's code. Nothing refuses, and any answer that may be told is one
+pub record StartLent (soft : List Float) (s w r f' s' w' : ℕ) : Type 0 where
+  pub answer : FrameStart
+  pub told : StartTold soft answer
+  pub code : r ≡ 0
+  pub found : f' ≡ startFound answer
+  pub start : s' ≡ startGiven answer s
+  pub word : w' ≡ wordGiven answer w

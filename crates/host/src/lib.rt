@@ -11,7 +11,7 @@ ghost use Rattle.prbs.specs.SignMap.{SignMap};
 ghost use Rattle.frame.specs.Operations.{RoleMap};
 ghost use Rattle.carrier_lists.specs.Operations.{DataList};
 ghost use Rattle.chanest.specs.Grid.{GridEstimated};
-ghost use Rattle.host.specs.Host.{CarrierBin, ContinualCount, ShiftLent, KindsLent, SamplesLent, GuessLent, SoftLent, PhaseLent};
+ghost use Rattle.host.specs.Host.{CarrierBin, ContinualCount, ShiftLent, KindsLent, SamplesLent, GuessLent, SoftLent, PhaseLent, StartLent};
 ghost use lib.ListN.{length};
 ghost use Rattle.samples_needed.specs.Samples.{samplesAnswer};
 ghost use Rattle.guess.specs.Guess.{guessAnswer, scratchLeaves};
@@ -19,6 +19,7 @@ ghost use Rattle.tmcc.specs.Tmcc.{softAnswer};
 use carrier_lists::ContinualList;
 use complex::C32;
 use complex::C64;
+use frame_start::FrameStart;
 use guess::GuardSearch;
 use ofdm::BandCarrier;
 use ofdm::BinLookup;
@@ -250,6 +251,29 @@ pub extern "C" fn sillurwy_detect_sp_phase(
         }
         PhaseAnswer::Refused(code) => code,
     }
+}
+
+// A start at which soft TMCC values spell a synchronising word: whether there is one, then the start and
+// the word's code. Where there is none, what was lent for start and word stays as it was. Nothing is
+// refused.
+#[no_mangle]
+pub extern "C" fn sillurwy_frame_start(
+    soft: &[f32],
+    found: &mut u8,
+    start: &mut usize,
+    word: &mut u8,
+) -> u8
+    ensures { λ r. ⌜ StartLent (now (soft .entry)) (now (start .entry)) (now (word .entry)) r
+        (now (found .exit)) (now (start .exit)) (now (word .exit)) ⌝ }
+{
+    let FrameStart::Start(f, spelt) = frame_start::frame_start(soft) else {
+        *found = 0;
+        return 0;
+    };
+    *found = 1;
+    *start = f;
+    *word = spelt.code();
+    0
 }
 
 // The channel at the points of the grid.

@@ -22,7 +22,7 @@ use replay::check_words;
 use tally::Tally;
 
 // How many operations there are; their numbers are 1 to this.
-pub const OPERATIONS: u8 = 16;
+pub const OPERATIONS: u8 = 17;
 
 // What the head of a record says of the call: what it returns, the arguments that are numbers, in the
 // order of the C function, and the entries of the list that is lent to be written. No operation is
@@ -298,6 +298,15 @@ fn estimate_grid(call: Call, kinds: &[u8], spectra: &[f32]) -> Tally
     check_floats(grid, answered(code, call))
 }
 
+fn frame_start(call: Call, floats: &[f32]) -> Tally {
+    let mut found: u8 = 77;
+    let mut start: usize = 77;
+    let mut word: u8 = 77;
+    let code = host::sillurwy_frame_start(floats, &mut found, &mut start, &mut word);
+    let told = check_byte(found, answered(code, call));
+    check_byte(word, check_size(start, told))
+}
+
 // A function of floats hands back its value in place of something lent, and refuses nothing: the code
 // that is stored is 0.
 fn root(a: f64, tally: Tally) -> Tally {
@@ -347,6 +356,7 @@ fn check_call(operation: u8, call: Call, bytes: &[u8], more_bytes: &[u8], floats
         10 => tmcc_soft(call, bytes, floats),
         11 => detect_sp_phase(call, bytes, floats),
         12 => estimate_grid(call, bytes, floats),
+        17 => frame_start(call, floats),
         _ => broken(),
     }
 }

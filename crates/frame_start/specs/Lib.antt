@@ -1,0 +1,3 @@
+pub mod FrameStart
+pub mod Inner
+pub mod Facts
