@@ -12,6 +12,7 @@ use oracle::isdb::params::{Mode, SEGMENTS};
 use oracle::ops::detect_mode::GuessCall;
 use oracle::ops::detect_sp_phase::{PhaseCall, Port, answer, write};
 use oracle::ops::estimate_grid::GridCall;
+use oracle::ops::frame_start::StartCall;
 use oracle::ops::samples_needed::NeededCall;
 use oracle::ops::tmcc_soft::TmccCall;
 use oracle::ops::{norm32, root};
@@ -88,6 +89,7 @@ fn departures<C: Call>() -> Option<u64> {
 fn what_has_no_norm_departs_nowhere() {
     assert_eq!(departures::<TmccCall>(), Some(0));
     assert_eq!(departures::<NeededCall>(), Some(0));
+    assert_eq!(departures::<StartCall>(), None);
     assert_eq!(departures::<GridCall>(), None);
     assert!(departures::<GuessCall>().is_some());
 }

@@ -298,11 +298,11 @@ fn estimate_grid(call: Call, kinds: &[u8], spectra: &[f32]) -> Tally
     check_floats(grid, answered(code, call))
 }
 
-fn frame_start(call: Call, floats: &[f32]) -> Tally {
+fn frame_start(call: Call, soft: &[f32]) -> Tally {
     let mut found: u8 = 77;
     let mut start: usize = 77;
     let mut word: u8 = 77;
-    let code = host::sillurwy_frame_start(floats, &mut found, &mut start, &mut word);
+    let code = host::sillurwy_frame_start(soft, &mut found, &mut start, &mut word);
     let told = check_byte(found, answered(code, call));
     check_byte(word, check_size(start, told))
 }

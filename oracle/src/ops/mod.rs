@@ -9,6 +9,7 @@ pub mod detect_kinds;
 pub mod detect_mode;
 pub mod detect_sp_phase;
 pub mod estimate_grid;
+pub mod frame_start;
 pub mod integer_cfo;
 pub mod narrow;
 pub mod norm32;
@@ -48,7 +49,7 @@ pub struct Operation {
 }
 
 /// Every operation, part by part.
-pub const OPERATIONS: [Operation; 17] = [
+pub const OPERATIONS: [Operation; 18] = [
     carrier_bin::OPERATION,
     role_map::OPERATION,
     sign_map::OPERATION,
@@ -60,6 +61,7 @@ pub const OPERATIONS: [Operation; 17] = [
     detect_kinds::OPERATION,
     tmcc_soft::OPERATION,
     detect_sp_phase::OPERATION,
+    frame_start::OPERATION,
     estimate_grid::OPERATION,
     root::OPERATION,
     narrow::OPERATION,
@@ -159,7 +161,7 @@ mod tests {
                 .then_some(name)
         };
         let functions = distinct(header.lines().filter_map(declared));
-        assert!(functions.len() >= 16, "{functions:?}");
+        assert!(functions.len() >= 17, "{functions:?}");
         let rows = distinct(numbered().into_iter().map(|(_, row)| row.name));
         assert_eq!(functions, rows);
     }

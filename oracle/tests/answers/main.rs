@@ -6,6 +6,7 @@ mod detect_kinds;
 mod detect_mode;
 mod detect_sp_phase;
 mod estimate_grid;
+mod frame_start;
 mod integer_cfo;
 mod samples_needed;
 mod tmcc_soft;

@@ -10,6 +10,7 @@ mod detect_mode;
 mod detect_sp_phase;
 mod estimate_grid;
 mod floats;
+mod frame_start;
 mod integer_cfo;
 mod narrow;
 mod norm32;
