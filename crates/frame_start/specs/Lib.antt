@@ -1,3 +1,4 @@
 pub mod FrameStart
 pub mod Inner
 pub mod Facts
+pub mod Worked
