@@ -347,12 +347,14 @@ fn start_row(operation: String, effort: &Effort, lists: &[Vec<f32>]) -> timing::
 /// branches.
 const LISTS: usize = 512;
 
-/// Of three frames, whose only start is the last place; and of many values without one.
+/// Of three frames, whose only start is the last place; of many values without one; and of as many that
+/// are all above zero, whose branches the processor foresees.
 fn bench(effort: &Effort) -> Vec<timing::Row> {
     let mut rng = Rng::new(1);
     let frames = |_| with_last_start(&mut rng, 3 * FRAME);
     let few: Vec<Vec<f32>> = (0..LISTS).map(frames).collect();
     let many = [without_start(&mut rng, MOST_VALUES)];
+    let above = [vec![1.0; MOST_VALUES]];
     let of_values = |count, what| format!("frame start of {} values, {what}", thousands(count));
     let with_calls = |calls| Effort { calls, ..*effort };
     vec![
@@ -362,6 +364,11 @@ fn bench(effort: &Effort) -> Vec<timing::Row> {
             &few,
         ),
         start_row(of_values(MOST_VALUES, "none"), &with_calls(1), &many),
+        start_row(
+            of_values(MOST_VALUES, "all above zero"),
+            &with_calls(1),
+            &above,
+        ),
     ]
 }
 
