@@ -223,8 +223,9 @@ uint8_t sillurwy_detect_sp_phase(uint8_t mode, const uint8_t *kinds, size_t kind
  *   soft   the values in the order of their symbols, any number of them, none too
  *   found  1 if there is such a place, 0 if there is none; then start and word keep their contents
  *   start  the index of the word's first value, from 0: values start to start + 15 spell the word.
- *          Where there are several such places, any of them may be given. Where value j is
- *          sillurwy_tmcc_soft of spectra j and j + 1, spectrum `start` is the first of the frame
+ *          Where there are several such places, any of them may be given; random bits spell a word
+ *          too, at one place in 32,768. Where value j is sillurwy_tmcc_soft of spectra j and j + 1,
+ *          the frame begins at spectrum `start`
  *   word   which one it is: enum sillurwy_sync_word
  * Nothing is refused: it always returns 0. */
 uint8_t sillurwy_frame_start(const float *soft, size_t soft_len, uint8_t *found, size_t *start,

@@ -49,9 +49,7 @@ pub struct FrameStart {
 /// if there is no such start, as in a list of fewer than sixteen values.
 ///
 /// A value below zero reads as bit 1, every other as 0: NaN, `-0.0` and `0.0` too. Where there are
-/// several starts, any of them may be given. Where value j is
-/// [`tmcc_soft`](crate::tmcc::tmcc_soft) of spectra j and j + 1, the frame begins at spectrum
-/// [`start`](FrameStart::start).
+/// several starts, any of them may be given. Random bits spell a word too, at one place in 32,768.
 ///
 /// Refused: never, since any list will do.
 ///
@@ -69,6 +67,28 @@ pub struct FrameStart {
 /// assert_eq!(frame_start(&negated)?, Some(FrameStart { start: 4, word }));
 /// // Fifteen values spell none.
 /// assert_eq!(frame_start(&soft[5..])?, None);
+/// # Ok::<(), sillurwy::Refusal>(())
+/// ```
+///
+/// Where value j is [`tmcc_soft`](crate::tmcc::tmcc_soft) of spectra j and j + 1, the frame begins at
+/// spectrum [`start`](FrameStart::start): its TMCC carriers are the reference of the word's first bit.
+///
+/// ```
+/// use sillurwy::frame_start::frame_start;
+/// use sillurwy::params::{Mode, SegmentKind};
+/// use sillurwy::tmcc::tmcc_soft;
+///
+/// // Spectra whose carriers change their sign where a bit is 1. The frame begins at spectrum 3.
+/// let mut sign = 1.0;
+/// let mut spectra = vec![[sign, 0.0].repeat(1405)];
+/// for bit in ["101", "0011010111101110"].concat().chars() {
+///     sign = if bit == '1' { -sign } else { sign };
+///     spectra.push([sign, 0.0].repeat(1405));
+/// }
+/// let kinds = [SegmentKind::Coherent; 13];
+/// let soft_of = |two: &[Vec<f32>]| tmcc_soft(Mode::M1, &kinds, &two.concat(), None);
+/// let soft: Vec<f32> = spectra.windows(2).map(soft_of).collect::<Result<_, _>>()?;
+/// assert_eq!(frame_start(&soft)?.map(|found| found.start), Some(3));
 /// # Ok::<(), sillurwy::Refusal>(())
 /// ```
 pub fn frame_start(soft: &[f32]) -> Result<Option<FrameStart>, Refusal> {
