@@ -37,20 +37,28 @@ behind-below (b ∷ bs) h =
     omega (arith, up, pow-suc 2 (length bs), behind-front (0 * 2 + b) bs, behind-below bs (h .1))
 
 -- as many bits that are the same number are the same bits
-pub record Alike (n m : ℕ) (bs cs : List ℕ) : Type 0 where
+pub record SameBits (n m : ℕ) (bs cs : List ℕ) : Type 0 where
   pub front : n ≡ m
   pub bits : bs ≡ cs
 
-pub alike : (bs cs : List ℕ) (n m : ℕ) → length bs ≡ length cs → AreBits bs → AreBits cs → behind n bs ≡ behind m cs → Alike n m bs cs
-alike [] [] n m l h g e = record { front = e; bits = refl }
-alike [] (c ∷ cs) n m l h g e = absurd (omega arith)
-alike (b ∷ bs) [] n m l h g e = absurd (omega arith)
-alike (b ∷ bs) (c ∷ cs) n m l h g e =
-    let r = alike bs cs (n * 2 + b) (m * 2 + c) (omega arith) (h .1) (g .1) e in
+pub same-bits : (bs cs : List ℕ) (n m : ℕ) → length bs ≡ length cs → AreBits bs → AreBits cs → behind n bs ≡ behind m cs → SameBits n m bs cs
+same-bits [] [] n m l h g e = record { front = e; bits = refl }
+same-bits [] (c ∷ cs) n m l h g e = absurd (omega arith)
+same-bits (b ∷ bs) [] n m l h g e = absurd (omega arith)
+same-bits (b ∷ bs) (c ∷ cs) n m l h g e =
+    let r = same-bits bs cs (n * 2 + b) (m * 2 + c) (omega arith) (h .1) (g .1) e in
     let same : b ≡ c = omega (arith, r .front, h .0, g .0) in
     record { front = omega (arith, r .front, h .0, g .0); bits = rw (same, r .bits) }
 
 -- ---- values and words read as bits
+pub one-below : (v : Float) → lt v (plusZero binary32) ≡ true → 1 ≡ bitOf v
+unfolding bitOf
+one-below v h = rw h
+
+pub zero-else : (v : Float) → lt v (plusZero binary32) ≡ false → 0 ≡ bitOf v
+unfolding bitOf
+zero-else v h = rw h
+
 pub bit-below : (v : Float) → bitOf v < 2
 unfolding bitOf
 bit-below v = by (lt v (plusZero binary32))

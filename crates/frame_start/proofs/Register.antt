@@ -17,7 +17,8 @@ use Rattle.frame_start.specs.Facts.{word-length, start-inside}
 use Rattle.frame_start.specs.declared.SyncWord.{SyncWord}
 use Rattle.frame_start.specs.declared.SyncWord.the-variants.{W0, W1}
 use Rattle.frame_start.specs.declared.FrameStart.the-variants.{Start, NoStart}
-use Rattle.frame_start.proofs.Bits.{behind-append, behind-front, behind-below, Alike, alike, bit-below, read-bits, word-bits, take-bits, drop-bits}
+use Rattle.frame_start.proofs.Bits.{behind-append, behind-front, behind-below, SameBits, same-bits}
+use Rattle.frame_start.proofs.Bits.{bit-below, read-bits, word-bits, take-bits, drop-bits}
 
 pub shifted-fits : (bits b : ℕ) (v : Float) → b ≡ bitOf v → shiftedIn bits b < 65536
 shifted-fits bits b v e = omega (arith, bit-below v)
@@ -65,7 +66,7 @@ module _ (soft : List Float) where
     unfolding Stands
     holds-word w e =
         let bits = take-bits 16 (drop f read) (drop-bits f read (read-bits soft)) in
-        alike last (wordBits w) 0 0 (sixteen ∙ sym (word-length w)) bits (word-bits w) (sym register-last ∙ e) .bits
+        same-bits last (wordBits w) 0 0 (sixteen ∙ sym (word-length w)) bits (word-bits w) (sym register-last ∙ e) .bits
 
   word-held : (f : ℕ) (w : SyncWord) → Stands soft f w → register soft (f + 16) ≡ behind 0 (wordBits w)
   unfolding Stands

@@ -1,19 +1,18 @@
 -- What a user of the frame start may rely on: a start lies in the list with all of its word; at one start stands one word; fewer than sixteen values
--- have no start; and neither a zero's sign nor what a NaN carries matters.
+-- have no start; and of values handed over by their bits, neither a zero's sign nor what a NaN carries matters.
 -- Assumes nothing.
-use Prim.Native.Nat.{ℕ, zero, suc, _+_, _*_, _≤_, _<_}
-use mathlib.Core.Bool.{Bool, true, false, false≢true}
+use Prim.Native.Nat.{ℕ, _+_, _≤_, _<_}
+use mathlib.Core.Bool.{Bool, true, false, cond}
 use mathlib.Core.List.{List, [], _∷_, map}
-use mathlib.Core.Path.{_≡_, refl, sym, ap, _∙_}
+use mathlib.Core.Path.{_≡_, refl, sym, ap, _∙_, subst}
 use native.Mathlib.Omega.{arith}
-use native.Mathlib.Nat.{zero-mul}
-use lib.Ieee.{Float, nan, inf, fin, binary32, below, lt, isNan, ofBits, nanBits, up, down}
+use lib.Dec.{T}
+use lib.Ieee.{Float, binary32, lt, ofBits, nanBits}
 use lib.Ieee.Bits.{nanBits-is}
-use lib.IntN.{ℤ, pos}
+use lib.Ieee.Compare.{differs-from-itself}
 use lib.ListN.{length, getD, take, drop, length-map, length-take, length-drop}
-use Rattle.ieee.specs.Constants.{plusZero, plus-zero-is}
-use Rattle.ieee.specs.Order.{nan-lt}
-use Rattle.ieee.specs.Zeros.{canon}
+use Rattle.ieee.specs.Constants.{plusZero}
+use Rattle.ieee.specs.Order.{nan-lt, ne-self}
 use Rattle.frame_start.specs.FrameStart.{wordBits, bitOf, Stands, StartTold}
 use Rattle.frame_start.specs.declared.SyncWord.{SyncWord}
 use Rattle.frame_start.specs.declared.SyncWord.the-variants.{W0, W1}
@@ -63,39 +62,47 @@ unfolding StartTold Stands
 told-alike xs ys e (Start f w) t = ap (λ (bs : List ℕ). take 16 (drop f bs)) (sym e) ∙ t
 told-alike xs ys e NoStart t = λ f w s. t f w (ap (λ (bs : List ℕ). take 16 (drop f bs)) e ∙ s)
 
--- any NaN, whatever its sign and whatever it carries, reads as 0
-is-nan : (v : Float) → isNan v ≡ true → v ≡ nan
-unfolding isNan
-is-nan nan h = refl
-is-nan (inf s) h = absurd (false≢true h)
-is-nan (fin s m e) h = absurd (false≢true h)
+-- ---- values by their bits, as a caller hands them over: zeros of both signs read as 0, and so does every NaN
+abbrev pub zeroPattern : Bool → ℕ
+zeroPattern s = cond s 0x8000_0000 0
+
+pub zero-bit : (s : Bool) → bitOf (ofBits binary32 (zeroPattern s)) ≡ 0
+unfolding bitOf lt ofBits
+zero-bit true = refl
+zero-bit false = refl
 
 pub nan-bit : (pattern : ℕ) → nanBits binary32 pattern ≡ true → bitOf (ofBits binary32 pattern) ≡ 0
 unfolding bitOf
-nan-bit pattern h = rw (is-nan (ofBits binary32 pattern) (sym (nanBits-is binary32 pattern) ∙ h), nan-lt (plusZero binary32))
+nan-bit pattern h =
+    let differs = ne-self (ofBits binary32 pattern) ∙ sym (nanBits-is binary32 pattern) ∙ h in
+    rw (differs-from-itself (ofBits binary32 pattern) (subst T (sym differs) tt), nan-lt (plusZero binary32))
 
--- zeros of both signs read as 0; a list whose zeros have other signs is told the same
-zero-below : (s : Bool) (e : ℤ) → lt (fin s 0 e) (plusZero binary32) ≡ false
-unfolding lt
-zero-below s e = rw (plus-zero-is binary32) (by s)
-  where
-    by : (s : Bool) → below s (0 * up e * down (pos 0)) false (0 * up (pos 0) * down e) ≡ false
-    by true = simp zero-mul
-    by false = simp zero-mul
+-- two bit patterns of one value, but for a zero's sign and for what a NaN carries; and lists of them, place by place
+pub data Alike (p q : ℕ) : Type 0 where
+  same : p ≡ q → Alike p q
+  zeros : (s t : Bool) → p ≡ zeroPattern s → q ≡ zeroPattern t → Alike p q
+  nans : nanBits binary32 p ≡ true → nanBits binary32 q ≡ true → Alike p q
 
-pub zero-bit : (s : Bool) (e : ℤ) → bitOf (fin s 0 e) ≡ 0
-unfolding bitOf
-zero-bit s e = rw (zero-below s e)
+abbrev pub AllAlike : List ℕ → List ℕ → Type 0
+AllAlike [] [] = Unit {0}
+AllAlike [] (q ∷ qs) = ⊥
+AllAlike (p ∷ ps) [] = ⊥
+AllAlike (p ∷ ps) (q ∷ qs) = Alike p q × AllAlike ps qs
 
-canon-bit : (v : Float) → bitOf (canon v) ≡ bitOf v
-canon-bit nan = refl
-canon-bit (inf s) = refl
-canon-bit (fin s zero e) = zero-bit false e ∙ sym (zero-bit s e)
-canon-bit (fin s (suc m) e) = refl
+abbrev pub values : List ℕ → List Float
+values patterns = map (ofBits binary32) patterns
 
-canon-bits : (vs : List Float) → map bitOf (map canon vs) ≡ map bitOf vs
-canon-bits [] = refl
-canon-bits (v ∷ vs) = rw (canon-bit v, canon-bits vs)
+alike-bit : (p q : ℕ) → Alike p q → bitOf (ofBits binary32 p) ≡ bitOf (ofBits binary32 q)
+alike-bit p q (same e) = rw e
+alike-bit p q (zeros s t e d) = rw (e, d) (zero-bit s ∙ sym (zero-bit t))
+alike-bit p q (nans h g) = nan-bit p h ∙ sym (nan-bit q g)
 
-pub zeros-alike : (xs ys : List Float) → map canon xs ≡ map canon ys → (r : FrameStart) → StartTold xs r → StartTold ys r
-zeros-alike xs ys e = told-alike xs ys (sym (canon-bits xs) ∙ ap (map bitOf) e ∙ canon-bits ys)
+alike-bits : (ps qs : List ℕ) → AllAlike ps qs → map bitOf (values ps) ≡ map bitOf (values qs)
+alike-bits [] [] h = refl
+alike-bits [] (q ∷ qs) h = absurd h
+alike-bits (p ∷ ps) [] h = absurd h
+alike-bits (p ∷ ps) (q ∷ qs) h = rw (alike-bit p q (h .0), alike-bits ps qs (h .1))
+
+-- of such lists the same is told
+pub patterns-alike : (ps qs : List ℕ) → AllAlike ps qs → (r : FrameStart) → StartTold (values ps) r → StartTold (values qs) r
+patterns-alike ps qs h = told-alike (values ps) (values qs) (alike-bits ps qs h)

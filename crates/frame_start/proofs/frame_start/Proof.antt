@@ -46,7 +46,8 @@ returns-2 : tie.Need-returns-2 Inv-loop μ-loop
 returns-2 c =
     let b = c .before .before in
     let t = b .before .before in
-    word-found _ _ _ _ _ (t .before .loop .inv) (omega (arith, t .loop-test .taken)) (b .shifted .ensures) W1 (c .if2 .taken)
+    word-found _ _ _ _ _ (t .before .loop .inv) (omega (arith, t .loop-test .taken)) (b .shifted .ensures) W1
+    (omega (arith, c .if2 .taken, c .before .if1 .left))
 
 add-f : tie.Need-add-f Inv-loop μ-loop
 add-f c = omega arith
