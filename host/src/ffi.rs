@@ -65,6 +65,7 @@ mod c {
             filter: u8,
             value: *mut f32,
         ) -> u8;
+        pub fn sillurwy_bin_ratio(pairs: *const f32, pairs_len: usize, ratio: *mut f32) -> u8;
         pub fn sillurwy_integer_cfo(
             mode: u8,
             spectra: *const f32,
@@ -261,6 +262,14 @@ pub fn tmcc_soft(mode: u8, kinds: &[u8], spectra: &[f32], filter: u8, value: &mu
             value,
         )
     }
+}
+
+/// The ratio of one bin, from its pairs in symbol order.
+#[inline]
+pub fn bin_ratio(pairs: &[f32], ratio: &mut f32) -> u8 {
+    // SAFETY: whole slices with their lengths, numbers, which live through the call; nobody else
+    // borrows what is written. The function keeps no pointer and asks for nothing more.
+    unsafe { c::sillurwy_bin_ratio(pairs.as_ptr(), pairs.len(), ratio) }
 }
 
 /// The shift of spectra, and its score; their ratios stay in `ratios`.

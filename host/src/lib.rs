@@ -11,6 +11,7 @@
 //! | [`frame`] | [`role_map`](frame::role_map) |
 //! | [`carrier_lists`] | [`data_list`](carrier_lists::data_list), [`continual_list`](carrier_lists::continual_list) |
 //! | [`guess`] | [`samples_needed`](guess::samples_needed), [`detect_mode`](guess::detect_mode) |
+//! | [`ratio`] | [`bin_ratio`](ratio::bin_ratio) |
 //! | [`shift`] | [`integer_cfo`](shift::integer_cfo) |
 //! | [`segment_kinds`] | [`detect_kinds`](segment_kinds::detect_kinds) |
 //! | [`tmcc`] | [`tmcc_soft`](tmcc::tmcc_soft) |
@@ -56,6 +57,7 @@ pub mod ofdm;
 pub mod params;
 pub mod pilot_phase;
 pub mod prbs;
+pub mod ratio;
 mod refusal;
 pub mod segment_kinds;
 pub mod shift;
@@ -63,5 +65,5 @@ pub mod tmcc;
 
 pub use refusal::Refusal;
 
-/// The most spectra that an operation takes.
+/// The most spectra that an operation takes, and so the most pairs of one bin.
 pub const MOST_SPECTRA: usize = 1024;

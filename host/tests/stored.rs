@@ -5,14 +5,14 @@ use sillurwy::params::{kinds_from_codes, GuardInterval, Mode, Phase, SegmentKind
 use sillurwy::pilot_phase::PilotPhase;
 use sillurwy::{
     carrier_lists, chanest, complex, frame, frame_start, guess, ieee, ofdm, pilot_phase, prbs,
-    segment_kinds, shift, tmcc, Refusal,
+    ratio, segment_kinds, shift, tmcc, Refusal,
 };
 use std::array::from_fn;
 use std::fs;
 use std::path::Path;
 
 /// The operations, by their numbers, which count from 1; how many things each is lent to be written.
-const OPERATIONS: [(&str, usize); 17] = [
+const OPERATIONS: [(&str, usize); 18] = [
     ("carrier_bin", 1),
     ("role_map", 1),
     ("sign_map", 1),
@@ -30,6 +30,7 @@ const OPERATIONS: [(&str, usize); 17] = [
     ("norm32", 1),
     ("norm64", 1),
     ("frame_start", 3),
+    ("bin_ratio", 1),
 ];
 
 /// What is not read yet of the stored answers.
@@ -304,6 +305,10 @@ fn call(name: &str, record: &Record) -> Result<Answer, Refusal> {
                 one(start.map(|start| start.word.code())),
             ];
             answer(given, lent)
+        }
+        "bin_ratio" => {
+            let ratio = ratio::bin_ratio(floats);
+            answer(ratio, [one(ratio.ok())])
         }
         name => panic!("{name} has no case"),
     })

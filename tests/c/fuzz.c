@@ -319,6 +319,12 @@ static void must_keep(const void *from, size_t bytes, const char *name)
     }
 }
 
+/* The same float, bit for bit; all NaNs are alike. */
+static bool same_f32(float given, float owed)
+{
+    return (isnan(given) && isnan(owed)) || memcmp(&given, &owed, sizeof given) == 0;
+}
+
 static bool all_below_u32(const uint32_t *list, size_t len, size_t bound)
 {
     for (size_t i = 0; i < len; i++) {
@@ -506,6 +512,63 @@ static void detect_mode(struct bytes *in)
     }
 }
 
+/* The norm of a pair: squares, sum and root in double. */
+static float norm_of(float re, float im)
+{
+    return (float)sqrt((double)re * (double)re + (double)im * (double)im);
+}
+
+/* The ratio of a bin that has `count` pairs, each `step` pairs behind the last: products and sums
+ * in float, each rounded by itself, in the order of the symbols. */
+static float ratio_of(const float *bin, size_t count, size_t step)
+{
+    float squares_re = 0, squares_im = 0, energy = 0;
+    for (size_t i = 1; i < count; i++) {
+        const float *x = bin + 2 * step * i, *y = x - 2 * step;
+        float re = x[0] * y[0] + x[1] * y[1];
+        float im = x[1] * y[0] - x[0] * y[1];
+        squares_re += re * re - im * im;
+        squares_im += re * im + im * re;
+        energy += re * re + im * im;
+    }
+    return energy > 0 ? norm_of(squares_re, squares_im) / energy : 0;
+}
+
+/* True if each of `bins` ratios is that of its bin, in `count` spectra of `bins` pairs. */
+static bool all_ratios(const float *ratios, size_t bins, const float *spectra, size_t count)
+{
+    for (size_t i = 0; i < bins; i++) {
+        if (!same_f32(ratios[i], ratio_of(spectra + 2 * i, count, bins))) {
+            return false;
+        }
+    }
+    return true;
+}
+
+/* How many floats a bin has: mostly of up to 40 pairs, else of up to the most or next to it, and
+ * seldom one float more. */
+static size_t some_pairs(struct bytes *in)
+{
+    uint8_t byte = a_byte(in);
+    size_t pairs = byte < 208   ? byte % 41U
+                   : byte < 240 ? below(in, SILLURWY_MOST_SPECTRA)
+                                : SILLURWY_MOST_SPECTRA - 2 + byte % 5U;
+    return 2 * pairs + (a_byte(in) >= 240);
+}
+
+static void bin_ratio(struct bytes *in)
+{
+    size_t len = some_pairs(in);
+    const float *pairs = some_floats(in, "pairs", len);
+    float *ratio = a_float_buffer(in, "ratio", 1, sizeof *ratio);
+    lent_ready();
+    uint8_t code = sillurwy_bin_ratio(pairs, len, ratio);
+    /* A bin by itself is spectra of one pair. */
+    if (accepted(code, bad_spectra(len, 1) ? 5 : len == 0 ? 6 : 0)) {
+        must(same_f32(*ratio, ratio_of(pairs, len / 2, 1)), "ratio");
+    }
+}
+
 static void integer_cfo(struct bytes *in)
 {
     uint8_t mode = a_mode(in);
@@ -527,6 +590,7 @@ static void integer_cfo(struct bytes *in)
                    : bound > n / 2        ? 8
                                           : 0;
     if (accepted(code, owed)) {
+        must(all_ratios(ratios, n, spectra, len / (2 * n)), "ratios");
         must(*shift >= -(int64_t)bound && *shift <= (int64_t)bound, "shift");
     }
 }
@@ -549,6 +613,7 @@ static void detect_kinds(struct bytes *in)
                    : ratios_len != k_total     ? 7
                                                : 0;
     if (accepted(code, owed)) {
+        must(all_ratios(ratios, k_total, spectra, len / (2 * k_total)), "ratios");
         must(all_below_u8(kinds, SILLURWY_SEGMENTS, 2), "kinds");
     }
 }
@@ -767,7 +832,7 @@ static void must_be_f32(float given, float owed)
     if (mistake == WRONG_CODE) {
         given += 1;
     }
-    if (!(isnan(given) && isnan(owed)) && memcmp(&given, &owed, sizeof given) != 0) {
+    if (!same_f32(given, owed)) {
         problem("the value is not the one that is owed:", "f32", 0);
     }
 }
@@ -789,8 +854,7 @@ static void norm32(struct bytes *in)
 {
     float re = a_float(in);
     float im = a_float(in);
-    double squares = (double)re * (double)re + (double)im * (double)im;
-    must_be_f32(sillurwy_norm32(re, im), (float)sqrt(squares));
+    must_be_f32(sillurwy_norm32(re, im), norm_of(re, im));
 }
 
 static void norm64(struct bytes *in)
@@ -817,6 +881,7 @@ static const struct target targets[] = {
     {"continual_list", continual_list, 20},
     {"samples_needed", samples_needed, 50},
     {"detect_mode", detect_mode, 3},
+    {"bin_ratio", bin_ratio, 50},
     {"integer_cfo", integer_cfo, 2},
     {"detect_kinds", detect_kinds, 2},
     {"tmcc_soft", tmcc_soft, 5},

@@ -34,7 +34,8 @@
     LINE(NARROW, "narrow")                   \
     LINE(NORM32, "norm32")                   \
     LINE(NORM64, "norm64")                   \
-    LINE(FRAME_START, "frame_start")
+    LINE(FRAME_START, "frame_start")         \
+    LINE(BIN_RATIO, "bin_ratio")
 
 #define NUMBER(number, name) number,
 #define NAME(number, name) name,
@@ -280,6 +281,7 @@ static uint8_t called(size_t function, struct call *c)
     case NORM64: *f64s(c, 0, 1) = sillurwy_norm64(c->wide[0], c->wide[1]); return 0;
     case FRAME_START:
         return sillurwy_frame_start(in, in_len, u8s(c, 0, 1), sizes(c, 1, 1), u8s(c, 2, 1));
+    case BIN_RATIO: return sillurwy_bin_ratio(in, in_len, f32s(c, 0, 1));
     default: fail("has a function that is not known", file_name);
     }
     return 0;

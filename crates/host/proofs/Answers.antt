@@ -24,9 +24,11 @@ use Rattle.pilot_phase.specs.declared.PilotAnswer.{PilotAnswer}
 use Rattle.pilot_phase.specs.PilotPhase.{PhaseDetected, phaseNumber, pilotsGiven, phaseGiven, shareGiven, besideGiven}
 use Rattle.frame_start.specs.declared.FrameStart.{FrameStart}
 use Rattle.frame_start.specs.FrameStart.{StartTold, startFound, startGiven, wordGiven}
+use Rattle.ratio.specs.declared.BinRatio.{BinRatio}
+use Rattle.ratio.specs.Ratio.{binRatioNumber, binRatioGiven}
 use Rattle.shift.specs.declared.ShiftAnswer.{ShiftAnswer}
 use Rattle.shift.specs.Shift.{Shifted, shiftNumber, shiftGiven}
-use Rattle.host.specs.Host.{CarrierBin, ContinualCount, ShiftLent, SamplesLent, GuessLent, SoftLent, PhaseLent, StartLent}
+use Rattle.host.specs.Host.{CarrierBin, ContinualCount, BinRatioLent, ShiftLent, SamplesLent, GuessLent, SoftLent, PhaseLent, StartLent}
 
 -- ---- an answer that is a struct with its number
 pub kept : {A : Type 0} (r code : ℕ) (x y : A) → r ≡ code → (r ≡ 0 → ⊥) → y ≡ cond (eqb code 0) x y
@@ -50,6 +52,9 @@ samples-told lent e = record { code = ap samplesNumber e; samples = ap (λ z. sa
 
 pub soft-told : {a b : SoftTmcc} (lent : Float) → a ≡ b → SoftLent b lent (softNumber a) (softGiven a lent)
 soft-told lent e = record { code = ap softNumber e; value = ap (λ z. softGiven z lent) e }
+
+pub bin-ratio-told : {a b : BinRatio} (lent : Float) → a ≡ b → BinRatioLent b lent (binRatioNumber a) (binRatioGiven a lent)
+bin-ratio-told lent e = record { code = ap binRatioNumber e; ratio = ap (λ z. binRatioGiven z lent) e }
 
 pub shift-told : {mode : ModeNumber} {xs old now : List Float} {bound : ℕ} {r a : ShiftAnswer} (z : ℤ) (s : Float) → Shifted mode xs bound old r now
     → r ≡ a → ShiftLent mode xs bound old z s (shiftNumber a) now (shiftGiven (λ f. f .shift) a z) (shiftGiven (λ f. f .score) a s)

@@ -22,6 +22,8 @@ use Rattle.winner.specs.Winner.{leadOf}
 use Rattle.pilot_phase.specs.PilotPhase.{phaseAnswer, phaseNumber, pilotsGiven, phaseGiven, shareGiven, besideGiven, countsAnswer}
 use Rattle.frame_start.specs.declared.FrameStart.{FrameStart}
 use Rattle.frame_start.specs.FrameStart.{StartTold, startFound, startGiven, wordGiven}
+use Rattle.ratio.specs.declared.BinRatio.{BinRatio}
+use Rattle.ratio.specs.Ratio.{binRatioNumber, binRatioGiven}
 use Rattle.segment_kinds.specs.SegmentKinds.{kindsCode, kindsAnswer, scoresAnswer, kindsLeaves}
 use Rattle.shift.specs.Shift.{shiftAnswer, shiftLeaves, shiftNumber, shiftGiven}
 
@@ -37,6 +39,11 @@ pub record ContinualCount (mode : ModeNumber) (kinds out : List ℕ) (lent r : �
   pub code : r ≡ continualNumber (continualListAnswer mode kinds (length out))
   pub counted : count ≡ countGiven (continualListAnswer mode kinds (length out)) lent
   pub leaves : out' ≡ continualListLeaves mode kinds out
+
+-- ---- the ratio of one bin
+pub record BinRatioLent (a : BinRatio) (x : Float) (r : ℕ) (x' : Float) : Type 0 where
+  pub code : r ≡ binRatioNumber a
+  pub ratio : x' ≡ binRatioGiven a x
 
 -- ---- the shift: z and s are lent for it and its score
 pub record ShiftLent (mode : ModeNumber) (xs : List Float) (bound : ℕ) (old : List Float) (z : ℤ) (s : Float) (r : ℕ) (now : List Float)

@@ -11,10 +11,12 @@ ghost use Rattle.prbs.specs.SignMap.{SignMap};
 ghost use Rattle.frame.specs.Operations.{RoleMap};
 ghost use Rattle.carrier_lists.specs.Operations.{DataList};
 ghost use Rattle.chanest.specs.Grid.{GridEstimated};
-ghost use Rattle.host.specs.Host.{CarrierBin, ContinualCount, ShiftLent, KindsLent, SamplesLent, GuessLent, SoftLent, PhaseLent, StartLent};
+ghost use Rattle.host.specs.Host.{CarrierBin, ContinualCount, BinRatioLent, ShiftLent, KindsLent};
+ghost use Rattle.host.specs.Host.{SamplesLent, GuessLent, SoftLent, PhaseLent, StartLent};
 ghost use lib.ListN.{length};
 ghost use Rattle.samples_needed.specs.Samples.{samplesAnswer};
 ghost use Rattle.guess.specs.Guess.{guessAnswer, scratchLeaves};
+ghost use Rattle.ratio.specs.Ratio.{binRatioAnswer};
 ghost use Rattle.tmcc.specs.Tmcc.{softAnswer};
 use carrier_lists::ContinualList;
 use complex::C32;
@@ -26,6 +28,7 @@ use ofdm::BinLookup;
 use pilot_phase::PhaseAnswer;
 use pilot_phase::PilotPhase;
 use pilot_times::Current;
+use ratio::BinRatio;
 use samples_needed::SamplesNeeded;
 use shift::ShiftAnswer;
 use tmcc::SoftTmcc;
@@ -165,6 +168,20 @@ pub extern "C" fn sillurwy_tmcc_soft(
             0
         }
         SoftTmcc::Refused(code) => code,
+    }
+}
+
+// The ratio of one bin, from its pairs in symbol order.
+#[no_mangle]
+pub extern "C" fn sillurwy_bin_ratio(pairs: &[f32], ratio: &mut f32) -> u8
+    ensures { λ r. ⌜ BinRatioLent (binRatioAnswer (now (pairs .entry))) (now (ratio .entry)) r (now (ratio .exit)) ⌝ }
+{
+    match ratio::bin_ratio(pairs) {
+        BinRatio::Ratio(x) => {
+            *ratio = x;
+            0
+        }
+        BinRatio::Refused(code) => code,
     }
 }
 

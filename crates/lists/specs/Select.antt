@@ -3,12 +3,12 @@
 -- Assumes nothing.
 use Prim.Native.Nat.{ℕ, zero, suc, _+_, _*_, _≤_, _<_, suc-le-suc}
 use mathlib.Core.Bool.{Bool, true, false, cond}
-use mathlib.Core.List.{List, [], _∷_, _++_, map, map-append, append-assoc, Perm, Perm-prop, Perm·refl, Perm·nil, Perm·cons, Perm·trans, Perm·append-left}
-use mathlib.Core.List.{Perm·append-right, perm-middle, perm-append-comm, List·Permᴰ, List·Permᴰ·nil, List·Permᴰ·cons, List·Permᴰ·swap, List·Permᴰ·trans}
+use mathlib.Core.List.{List, [], _∷_, _++_, map, map-append, append-assoc, append-nil, Perm, Perm-prop, Perm·refl, Perm·nil, Perm·cons, Perm·trans}
+use mathlib.Core.List.{Perm·append-left, Perm·append-right, perm-middle, perm-append-comm, List·Permᴰ, List·Permᴰ·nil, List·Permᴰ·cons, List·Permᴰ·swap, List·Permᴰ·trans}
 use mathlib.Core.Logic.{∥∥₁-elim}
 use mathlib.Core.Path.{_≡_, refl, sym, ap, _∙_}
 use native.Mathlib.Omega.{arith}
-use native.Mathlib.Nat.{le-of-suc-le-suc, not-suc-le-zero, suc-mul, zero-mul}
+use native.Mathlib.Nat.{le-of-suc-le-suc, not-suc-le-zero, suc-mul, zero-mul, add-zero, add-suc}
 use native.Mathlib.Decide.{decLt}
 use native.Mathlib.Numerals.{add-one}
 use lib.ListN.{length, getD, length-append, List·getD-append}
@@ -33,6 +33,11 @@ getD-upTo f (suc n) i d h = last (decLt i n) (λ l. getD-upTo f n i d l)
 pub upTo-same : {A : Type 0} (f g : ℕ → A) (n : ℕ) → ((i : ℕ) → i < n → f i ≡ g i) → upTo f n ≡ upTo g n
 upTo-same f g zero h = refl
 upTo-same f g (suc n) h = λ k. upTo-same f g n (λ i l. h i (omega arith)) k ++ (h n (omega arith) k ∷ [])
+
+-- the values from k on stand behind the first k
+pub upTo-add : {A : Type 0} (f : ℕ → A) (k n : ℕ) → upTo f (k + n) ≡ upTo f k ++ upTo (λ i. f (k + i)) n
+upTo-add f k zero = rw (add-zero k) (sym (append-nil (upTo f k)))
+upTo-add f k (suc n) = rw (add-suc k n, upTo-add f k n) (append-assoc (upTo f k) (upTo (λ i. f (k + i)) n) (f (k + n) ∷ []))
 
 -- a function of each value
 pub map-upTo : {A B : Type 0} (g : A → B) (f : ℕ → A) (n : ℕ) → map g (upTo f n) ≡ upTo (λ i. g (f i)) n

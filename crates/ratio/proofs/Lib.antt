@@ -1,4 +1,4 @@
 -- Laws that belong to no one function.
-pub mod Ahead
+pub mod Terms
 pub mod Bins
-pub mod Eights
+pub mod Slots

@@ -4,3 +4,4 @@ pub mod Inner
 pub mod Unchanged
 pub mod NoMinus
 pub mod Facts
+pub mod EachBin

@@ -15,6 +15,8 @@ use Rattle.lists.specs.Refusals.{unless}
 use Rattle.complex.specs.Complex.{Pair, pair, product, conjugate, squaredSize, norm32}
 use Rattle.complex.specs.Totals.{totals}
 use Rattle.spectra.specs.Spectra.{binPairs, spectraCode}
+use Rattle.ratio.specs.declared.BinRatio.{BinRatio}
+use Rattle.ratio.specs.declared.BinRatio.the-variants.{Ratio, Refused}
 
 -- each pair after y, times the conjugate of the one before it
 unfoldable pub stepsFrom : Pair → List Pair → List Pair
@@ -53,7 +55,30 @@ ratioOf xs = guarded (norm32 (correlation xs)) (energy xs)
 unfoldable pub binRatios : ℕ → List Float → List Float
 binRatios len xs = upTo (λ b. ratioOf (binPairs len xs b)) len
 
--- ---- the operation, with later tests behind: 5 unless whole spectra of len pairs, at most 1,024; 6 if none; 7 unless len ratios
+-- ---- one bin (document 02, ask 2): its pairs lie one behind another in symbol order, as spectra of one bin do, and are refused as those are: 5
+-- for an odd length or over 1,024 pairs; 6 for none
+abbrev pub binRatioCode : ℕ → ℕ
+binRatioCode floats = spectraCode 1 floats 0
+
+unfoldable pub binRatioAnswer : List Float → BinRatio
+binRatioAnswer xs =
+    let code = binRatioCode (length xs) in
+    cond (eqb code 0) (Ratio (ratioOf (binPairs 1 xs 0))) (Refused code)
+
+-- the answer's number, and the ratio that it gives, or what was lent
+abbrev pub binRatioNumber : BinRatio → ℕ
+binRatioNumber (Ratio x) = 0
+binRatioNumber (Refused code) = code
+
+abbrev pub binRatioGiven : BinRatio → Float → Float
+binRatioGiven (Ratio x) lent = x
+binRatioGiven (Refused code) lent = lent
+
+pub record BinRatioTold (xs : List Float) (r : BinRatio) : Type 0 where
+  pub number : binRatioNumber r ≡ binRatioCode (length xs)
+  pub answer : r ≡ binRatioAnswer xs
+
+-- ---- the operation on spectra, with later tests behind: 5 unless whole spectra of len pairs, at most 1,024; 6 if none; 7 unless len ratios
 abbrev pub metricCode : ℕ → ℕ → ℕ → ℕ → ℕ
 metricCode len floats room later = spectraCode len floats (unless (eqb room len) 7 later)
 

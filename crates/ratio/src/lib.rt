@@ -1,16 +1,24 @@
-// The ratio of each bin over spectra (acquire.rs of isdb-rs, `continual_metric`): bins are worked one
-// after the other, each from its own pairs in symbol order.
+// The ratio of each bin over spectra (acquire.rs of isdb-rs, `continual_metric`), and of one bin from its
+// pairs alone. A bin is finished over all spectra before the next is taken: the pairs of some bins are
+// copied so that each bin's lie one behind another, and each ratio is that of one bin's pairs.
 ghost use mathlib.Core.Path.{_≡_};
 ghost use Prim.Native.Nat.{_+_, _*_, _<_, _≤_};
 ghost use lib.ListN.{length};
 ghost use lib.Seq.{sets};
 ghost use Rattle.lists.specs.Lists.{upTo};
 ghost use Rattle.complex.specs.Complex.{of32, norm32};
-ghost use Rattle.spectra.specs.Spectra.{column};
-ghost use Rattle.ratio.specs.Ratio.{guarded, ratioOf, binRatios, metricCode, MetricTaken};
+ghost use Rattle.spectra.specs.Spectra.{column, binPairs};
+ghost use Rattle.ratio.specs.Ratio.{guarded, ratioOf, binRatios, metricCode, MetricTaken, BinRatioTold};
 ghost use Rattle.ratio.specs.Codes.{Accepted};
-ghost use Rattle.ratio.specs.Inner.{Started, Stepped, Summed, Copied, Gatherable, Gathered, Countable, Filled};
+ghost use Rattle.ratio.specs.Inner.{Started, Stepped, TermsPut, TermsAdded, SummedTo, Summed};
+ghost use Rattle.ratio.specs.Inner.{Spreadable, Spread, Gatherable, Gathered, InBlock, Writable};
 use complex::C32;
+
+// One bin's ratio, or what refuses its pairs.
+pub enum BinRatio {
+    Ratio(f32),
+    Refused(u8),
+}
 
 // The sums of a bin: of the squares of its products, and of their squared sizes.
 pub struct BinSums {
@@ -34,8 +42,25 @@ impl BinSums {
     {
         let p = x.mul(y.conj());
         let n = self.num;
-        let num = n.add(p.mul(p));
-        let den = self.den + p.norm_sqr();
+        BinSums {
+            num: n.add(p.mul(p)),
+            den: self.den + p.norm_sqr(),
+        }
+    }
+
+    // The first n squares and squared sizes more, in their order.
+    pub fn add_terms(self, squares: &[f32], sizes: &[f32], n: usize) -> BinSums
+        requires { ⌜ (2 * n ≤ length (now squares)) × (n ≤ length (now sizes)) ⌝ }
+        ensures { λ r. ⌜ TermsAdded self (now (squares .entry)) (now (sizes .entry)) n r ⌝ }
+    {
+        let mut num = self.num;
+        let mut den = self.den;
+        let mut i: usize = 0;
+        while i < n {
+            num = num.add(spectra::pair_at(squares, i));
+            den = den + sizes[i];
+            i += 1;
+        }
         BinSums { num, den }
     }
 
@@ -52,23 +77,89 @@ impl BinSums {
     }
 }
 
-// The sums of bin `bin`, of `count` spectra of `len` pairs.
-fn bin_sums(spectra: &[f32], len: usize, count: usize, bin: usize) -> BinSums
-    requires { ⌜ (bin < len) × (0 < count) × (2 * (len * count) ≤ length (now spectra)) ⌝ }
-    ensures { λ r. ⌜ Summed (column (now (spectra .entry)) len bin count) r ⌝ }
+// Room for the squares of sixteen products. The `ensures` gives the length alone.
+fn square_room() -> [f32; 32]
+    ensures { λ r. ⌜ 32 ≡ length r ⌝ }
 {
-    let mut prev = spectra::pair_at(spectra, bin);
+    [0.0; 32]
+}
+
+// Room for their squared sizes.
+fn size_room() -> [f32; 16]
+    ensures { λ r. ⌜ 16 ≡ length r ⌝ }
+{
+    [0.0; 16]
+}
+
+fn smaller(a: usize, b: usize) -> usize
+    ensures { λ r. ⌜ (r ≤ a) × (r ≤ b) × (0 < a → 0 < b → 0 < r) ⌝ }
+{
+    if a < b { a } else { b }
+}
+
+// Stores the squares and the squared sizes of n products, the first of them of pair `from` and the one
+// behind it. No product waits for another, so the compiler works on four at once; sums would wait.
+fn put_terms(pairs: &[f32], from: usize, n: usize, squares: &mut [f32], sizes: &mut [f32])
+    requires { ⌜ (2 * (from + n + 1) ≤ length (now pairs)) × (2 * n ≤ length (now squares)) × (n ≤ length (now sizes)) ⌝ }
+    ensures { λ _. ⌜ TermsPut (now (pairs .entry)) from n (now (squares .exit)) (now (sizes .exit)) ⌝ }
+{
+    let mut i: usize = 0;
+    while i < n {
+        let y = spectra::pair_at(pairs, from + i);
+        let x = spectra::pair_at(pairs, from + i + 1);
+        let p = x.mul(y.conj());
+        spectra::put_pair(squares, i, p.mul(p));
+        sizes[i] = p.norm_sqr();
+        i += 1;
+    }
+}
+
+// The sums of the first n products: sixteen are worked out, and then added up in their order.
+fn front_sums(pairs: &[f32], n: usize) -> BinSums
+    requires { ⌜ 2 * (n + 1) ≤ length (now pairs) ⌝ }
+    ensures { λ r. ⌜ SummedTo (now (pairs .entry)) n r ⌝ }
+{
+    let mut squares = square_room();
+    let mut sizes = size_room();
     let mut sums = BinSums::zero();
-    let mut at = bin;
-    let mut left = count - 1;
-    while 0 < left {
-        at = at + len;
-        let x = spectra::pair_at(spectra, at);
-        sums = sums.step(x, prev);
-        prev = x;
-        left = left - 1;
+    let mut from: usize = 0;
+    while from < n {
+        let m = smaller(16, n - from);
+        put_terms(pairs, from, m, &mut squares, &mut sizes);
+        sums = sums.add_terms(&squares, &sizes, m);
+        from += m;
     }
     sums
+}
+
+// The sums of all products of a bin's pairs. Up to three that make no four are added one by one.
+fn bin_sums(pairs: &[f32]) -> BinSums
+    requires { ⌜ 2 ≤ length (now pairs) ⌝ }
+    ensures { λ r. ⌜ Summed (binPairs 1 (now (pairs .entry)) 0) r ⌝ }
+{
+    let n = pairs.len() / 2 - 1;
+    let mut at = n / 4 * 4;
+    let mut sums = front_sums(pairs, at);
+    while at < n {
+        let y = spectra::pair_at(pairs, at);
+        at += 1;
+        let x = spectra::pair_at(pairs, at);
+        sums = sums.step(x, y);
+    }
+    sums
+}
+
+// The ratio of one bin, from its pairs alone in symbol order.
+//
+// Refused by 5 for an odd length or over 1,024 pairs, 6 for none: as spectra of one bin are.
+pub fn bin_ratio(pairs: &[f32]) -> BinRatio
+    ensures { λ r. ⌜ BinRatioTold (now (pairs .entry)) r ⌝ }
+{
+    let code = spectra::refusal(1, pairs.len());
+    if code != 0 {
+        return BinRatio::Refused(code);
+    }
+    BinRatio::Ratio(bin_sums(pairs).ratio())
 }
 
 // What refuses `floats` floats as spectra of `len` pairs, with room for `room` ratios lent, or 0: 5
@@ -86,79 +177,109 @@ pub fn refusal(len: usize, floats: usize, room: usize) -> u8
     0
 }
 
-// Room for the pairs of eight bins over 1,024 symbols. The `ensures` gives the length alone.
-fn block_room() -> [f32; 16384]
-    ensures { λ r. ⌜ 16384 ≡ length r ⌝ }
-{
-    [0.0; 16384]
+// Neighbouring bins in the copy: `width` of them from bin `first` on, each of `count` pairs one behind
+// another, and `slot` pairs from one bin's first pair to the next bin's.
+pub struct BinBlock {
+    pub first: usize,
+    pub width: usize,
+    pub count: usize,
+    pub slot: usize,
 }
 
-// Copies eight pairs of `from`, from pair `at` on, to `to`, from pair `first` on.
-fn copy_eight(from: &[f32], at: usize, to: &mut [f32], first: usize)
-    requires { ⌜ (2 * (at + 8) ≤ length (now from)) × (2 * (first + 8) ≤ length (now to)) ⌝ }
-    ensures { λ _. ⌜ Copied (now (from .entry)) at (now (to .entry)) first 8 (now (to .exit)) ⌝ }
+// Room for eight slots of 1,032 pairs. The `ensures` gives the length alone.
+fn block_room() -> [f32; 16512]
+    ensures { λ r. ⌜ 16512 ≡ length r ⌝ }
 {
+    [0.0; 16512]
+}
+
+// Copies the pairs of two symbols, which begin at `at` and `next`, to the pairs t and t + 1 of the
+// slots. Two pairs at a time are one store.
+fn spread_two(spectra: &[f32], at: usize, next: usize, bins: BinBlock, t: usize, block: &mut [f32])
+    requires { ⌜ Spreadable at next (bins .width) (bins .slot) t (length (now spectra)) (length (now block)) ⌝ }
+    ensures { λ _. ⌜ Spread (now (spectra .entry)) at next (bins .width) (bins .slot) t (now (block .entry)) (now (block .exit)) ⌝ }
+{
+    let mut to = t;
     let mut i: usize = 0;
-    while i < 8 {
-        let x = spectra::pair_at(from, at + i);
-        spectra::put_pair(to, first + i, x);
+    while i < bins.width {
+        let x = spectra::pair_at(spectra, at + i);
+        let y = spectra::pair_at(spectra, next + i);
+        spectra::put_pair(block, to, x);
+        spectra::put_pair(block, to + 1, y);
+        to += bins.slot;
         i += 1;
     }
 }
 
-// Copies the pairs of eight bins, from bin `first` on, of `count` spectra of `len` pairs. Eight pairs lie
-// in a line of the cache: so each line of the spectra is fetched once for its eight bins, and not again
-// for each of them.
-fn gather(spectra: &[f32], len: usize, count: usize, first: usize, block: &mut [f32])
-    requires { ⌜ Gatherable len count first (length (now spectra)) (length (now block)) ⌝ }
-    ensures { λ _. ⌜ Gathered (now (spectra .entry)) len first count (now (block .exit)) ⌝ }
+// Copies the pairs of some bins of spectra of `len` pairs. Eight pairs lie in a line of the cache: so
+// each line of the spectra is fetched once for its bins, and not again for each of them.
+fn gather(spectra: &[f32], len: usize, bins: BinBlock, block: &mut [f32])
+    requires { ⌜ Gatherable len bins (length (now spectra)) (length (now block)) ⌝ }
+    ensures { λ _. ⌜ Gathered (now (spectra .entry)) len bins (bins .count) (now (block .exit)) ⌝ }
 {
-    let mut at = first;
-    let mut j: usize = 0;
-    while j < count {
-        copy_eight(spectra, at, block, 8 * j);
-        at += len;
-        j += 1;
+    let mut at = bins.first;
+    let mut t: usize = 0;
+    while t + 1 < bins.count {
+        spread_two(spectra, at, at + len, bins, t, block);
+        at += 2 * len;
+        t += 2;
+    }
+    // An odd symbol stands alone: what follows it in the slot is not read.
+    if t < bins.count {
+        spread_two(spectra, at, at, bins, t, block);
     }
 }
 
-// Stores the ratios of eight bins from index `first` on; `block` has the pairs of these bins.
-fn write_eight(block: &[f32], count: usize, out: &mut [f32], first: usize)
-    requires { ⌜ (0 < count) × (16 * count ≤ length (now block)) × (first + 8 ≤ length (now out)) ⌝ }
-    ensures { λ _. ⌜ now (out .exit) ≡ sets (now (out .entry)) first (upTo (λ i. ratioOf (column (now (block .entry)) 8 i count)) 8) ⌝ }
+// The ratio of bin i of the copy.
+fn ratio_in(block: &[f32], bins: BinBlock, i: usize) -> f32
+    requires { ⌜ InBlock bins i (length (now block)) ⌝ }
+    ensures { λ r. ⌜ r ≡ ratioOf (column (now (block .entry)) 1 (i * bins .slot) (bins .count)) ⌝ }
 {
+    let from = 2 * (i * bins.slot);
+    let to = from + 2 * bins.count;
+    let BinRatio::Ratio(ratio) = bin_ratio(&block[from..to]) else {
+        return 0.0;
+    };
+    ratio
+}
+
+// Stores the ratios of the bins of the copy, each at its bin.
+fn write_block(block: &[f32], bins: BinBlock, out: &mut [f32])
+    requires { ⌜ Writable bins (length (now block)) (length (now out)) ⌝ }
+    ensures { λ _. ⌜ now (out .exit)
+        ≡ sets (now (out .entry)) (bins .first) (upTo (λ i. ratioOf (column (now (block .entry)) 1 (i * bins .slot) (bins .count))) (bins .width)) ⌝ }
+{
+    let first = bins.first;
     let mut i: usize = 0;
-    while i < 8 {
-        out[first + i] = bin_sums(block, 8, count, i).ratio();
+    while i < bins.width {
+        out[first + i] = ratio_in(block, bins, i);
         i += 1;
     }
 }
 
-// Writes the ratios of as many bins as are whole eights, and gives their number.
-fn write_eights(spectra: &[f32], len: usize, count: usize, out: &mut [f32]) -> usize
-    requires { ⌜ Countable len count (length (now spectra)) (length (now out)) ⌝ }
-    ensures { λ r. ⌜ Filled (λ b. ratioOf (column (now (spectra .entry)) len b count)) (now (out .entry)) len r (now (out .exit)) ⌝ }
-{
-    let mut block = block_room();
-    let mut b: usize = 0;
-    while len - b >= 8 {
-        gather(spectra, len, count, b, &mut block);
-        write_eight(&block, count, out, b);
-        b += 8;
-    }
-    b
-}
-
-// The ratios of an accepted call.
+// The ratios of an accepted call. A slot has a line of the cache more than the bin's pairs, since slots
+// that lie a power of two apart share too few of the cache's places; two lines of bins are copied at a
+// time where there is room.
 fn write_ratios(spectra: &[f32], len: usize, out: &mut [f32])
     requires { ⌜ Accepted len (length (now spectra)) (length (now out)) 0 ⌝ }
     ensures { λ _. ⌜ now (out .exit) ≡ binRatios len (now (spectra .entry)) ⌝ }
 {
     let count = spectra.len() / (2 * len);
-    let mut b = write_eights(spectra, len, count, out);
-    while b < len {
-        out[b] = bin_sums(spectra, len, count, b).ratio();
-        b += 1;
+    let slot = count + 8;
+    let most = smaller(16, 8256 / slot);
+    let mut block = block_room();
+    let mut first: usize = 0;
+    while first < len {
+        let width = smaller(most, len - first);
+        let bins = BinBlock {
+            first,
+            width,
+            count,
+            slot,
+        };
+        gather(spectra, len, bins, &mut block);
+        write_block(&block, bins, out);
+        first += width;
     }
 }
 

@@ -22,7 +22,7 @@ use replay::check_words;
 use tally::Tally;
 
 // How many operations there are; their numbers are 1 to this.
-pub const OPERATIONS: u8 = 17;
+pub const OPERATIONS: u8 = 18;
 
 // What the head of a record says of the call: what it returns, the arguments that are numbers, in the
 // order of the C function, and the entries of the list that is lent to be written. No operation is
@@ -307,6 +307,12 @@ fn frame_start(call: Call, soft: &[f32]) -> Tally {
     check_byte(word, check_size(start, told))
 }
 
+fn bin_ratio(call: Call, pairs: &[f32]) -> Tally {
+    let mut ratio: f32 = 77.0;
+    let code = host::sillurwy_bin_ratio(pairs, &mut ratio);
+    check_float(ratio, answered(code, call))
+}
+
 // A function of floats hands back its value in place of something lent, and refuses nothing: the code
 // that is stored is 0.
 fn root(a: f64, tally: Tally) -> Tally {
@@ -357,6 +363,7 @@ fn check_call(operation: u8, call: Call, bytes: &[u8], more_bytes: &[u8], floats
         11 => detect_sp_phase(call, bytes, floats),
         12 => estimate_grid(call, bytes, floats),
         17 => frame_start(call, floats),
+        18 => bin_ratio(call, floats),
         _ => broken(),
     }
 }

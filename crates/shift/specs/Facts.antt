@@ -5,7 +5,7 @@
 -- This is of sums. Scores are sums divided, and may tie where sums do not: in mode 1 the sums 14 + 2^-20 and 14 + 2^-19 both give the score
 -- 0x3f04bda2, and the greater sum wins.
 -- The pattern has 27, 53 and 105 bins in modes 1, 2 and 3. An answer has the number that its refusals decide, and an accepted
--- call tells the winner and leaves the ratios.
+-- call tells the winner and leaves the ratios, each of which is its bin's own (`shift-each`).
 -- Assumes nothing.
 use Prim.Native.Nat.{ℕ, _+_, _*_, _<_}
 use mathlib.Core.Bool.{true, false}
@@ -27,8 +27,11 @@ use Rattle.params.specs.declared.ModeNumber.{ModeNumber}
 use Rattle.params.specs.declared.ModeNumber.the-variants.{Known, Unknown}
 use Rattle.params.specs.Params.{fftSize}
 use Rattle.ratio.specs.Ratio.{binRatios}
+use Rattle.ratio.specs.Codes.{accepted}
+use Rattle.ratio.specs.EachBin.{EachBin, each-bin}
+use Rattle.shift.specs.declared.ShiftAnswer.{ShiftAnswer}
 use Rattle.shift.specs.declared.ShiftAnswer.the-variants.{Found, Refused}
-use Rattle.shift.specs.Shift.{winner, sumAt, bestShift, foundOf, patternCarriers, pattern, shiftCode, shiftLeaves, shiftAnswer, shiftNumber}
+use Rattle.shift.specs.Shift.{winner, sumAt, bestShift, foundOf, patternCarriers, pattern, shiftCode, shiftLeaves, shiftAnswer, shiftNumber, Shifted}
 use Rattle.shift.specs.Searches.{found-kind, found-most, found-first, found-nan}
 use Rattle.shift.specs.Moved.{Laid, ratios-no-minus, sum-above}
 
@@ -87,6 +90,15 @@ module _ (m : Mode) (xs old : List Float) (bound : ℕ) (accepted : shiftCode (K
   pub accepted-leaves : shiftLeaves (Known m) xs bound old ≡ binRatios (fftSize m) xs
   unfolding shiftLeaves
   accepted-leaves = rw accepted
+
+-- each ratio that an accepted call leaves is what `bin_ratio` answers for that bin's pairs laid one behind another
+pub shift-each : (m : Mode) (xs : List Float) (bound : ℕ) (old : List Float) (r : ShiftAnswer) (now : List Float)
+    → Shifted (Known m) xs bound old r now → shiftNumber r ≡ 0 → EachBin (fftSize m) xs now
+unfolding shiftCode
+shift-each m xs bound old r now h z =
+    let none : shiftCode (Known m) (length xs) (length old) bound ≡ 0 = sym (h .number) ∙ z in
+    let a = accepted (fftSize m) (length xs) (length old) _ none in
+    rw (h .leaves, accepted-leaves m xs old bound none) (each-bin (fftSize m) xs (a .some) (a .few))
 
 -- ---- the pattern
 abbrev pub patternBins : Mode → ℕ

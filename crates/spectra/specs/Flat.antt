@@ -1,20 +1,20 @@
--- Laws of pairs laid flat: their length, their pairs, that a list is its own pairs laid flat, what one stored pair changes, and which pairs a
--- column has.
+-- Laws of pairs laid flat: their length, their pairs, that a list is its own pairs laid flat, what one stored pair changes, which pairs a
+-- column has, and that one bin's pairs laid flat are spectra of one bin.
 -- Assumes nothing.
 use Prim.Native.Nat.{ℕ, zero, suc, _+_, _*_, _/_, _≤_, _<_}
 use mathlib.Core.List.{List, [], _∷_, _++_}
 use mathlib.Core.Logic.{_≢_}
 use mathlib.Core.Path.{_≡_, refl, sym, ap, _∙_}
 use native.Mathlib.Omega.{arith}
-use native.Mathlib.Nat.{le-of-suc-le-suc, not-suc-le-zero, zero-mul, zero-add, suc-mul}
+use native.Mathlib.Nat.{le-of-suc-le-suc, not-suc-le-zero, zero-mul, zero-add, suc-mul, mul-one}
 use native.Mathlib.Decide.{decLe}
-use lib.ListN.{getD, set, length, length-set}
+use lib.ListN.{getD, set, length, length-set, take, drop, length-drop}
 use lib.Ieee.{Float, nan}
-use lib.Seq.{ext-getD, getD-set-same, getD-set-other}
+use lib.Seq.{ext-getD, getD-set-same, getD-set-other, getD-take, getD-drop, length-take-le}
 use Rattle.lists.specs.Lists.{upTo}
-use Rattle.lists.specs.Select.{length-upTo, getD-upTo}
+use Rattle.lists.specs.Select.{length-upTo, getD-upTo, upTo-same}
 use Rattle.complex.specs.Complex.{Pair, pair}
-use Rattle.spectra.specs.Spectra.{pairAt, flat, withPair, column}
+use Rattle.spectra.specs.Spectra.{pairAt, flat, withPair, column, spectraIn, binPairs}
 
 pub length-flat : (ps : List Pair) → length (flat ps) ≡ 2 * length ps
 unfolding flat
@@ -77,3 +77,44 @@ pub column-is : (xs : List Float) (len k n : ℕ) → column xs len k n ≡ upTo
 unfolding column
 column-is xs len k zero = refl
 column-is xs len k (suc n) = column-last xs len k n ∙ ap (λ (l : List Pair). l ++ (pairAt xs (n * len + k) ∷ [])) (column-is xs len k n)
+
+-- ---- one bin's pairs, one behind another
+pub one-bin : (xs : List Float) (k n : ℕ) → column xs 1 k n ≡ upTo (λ j. pairAt xs (k + j)) n
+one-bin xs k n =
+    let at : (j : ℕ) → j * 1 + k ≡ k + j = λ j. rw (mul-one j) (omega arith) in
+    column-is xs 1 k n ∙ upTo-same _ _ n (λ j l. ap (pairAt xs) (at j))
+
+-- laid flat, a bin's pairs are spectra of one bin, with these pairs
+pub bin-flat : (ps : List Pair) → binPairs 1 (flat ps) 0 ≡ ps
+bin-flat ps =
+    let d : Pair = pair nan nan in
+    let all : spectraIn 1 (length (flat ps)) ≡ length ps = rw (length-flat ps) (omega arith) in
+    let own = length-upTo (λ j. pairAt (flat ps) (0 + j)) (length ps) in
+    rw (all, one-bin (flat ps) 0 (length ps))
+    (ext-getD d _ ps own (λ i h.
+    let l : i < length ps = rw own at h in
+    getD-upTo (λ j. pairAt (flat ps) (0 + j)) (length ps) i d l ∙ rw (zero-add i) (pair-of ps i d l)))
+
+-- n pairs of a flat list, from pair k on, are spectra of one bin
+module _ (xs : List Float) (k n : ℕ) (room : 2 * (k + n) ≤ length xs) where
+  abbrev part : List Float
+  part = take (2 * n) (drop (2 * k) xs)
+
+  pub length-part : length part ≡ 2 * n
+  length-part = length-take-le (2 * n) (drop (2 * k) xs) (rw length-drop (omega arith))
+
+  entry-part : (i : ℕ) → i < 2 * n → getD part i nan ≡ getD xs (2 * k + i) nan
+  entry-part i h = getD-take (2 * n) (drop (2 * k) xs) i nan h ∙ getD-drop (2 * k) xs i nan
+
+  pair-part : (t : ℕ) → t < n → pairAt part t ≡ pairAt xs (k + t)
+  pair-part t l =
+      let re : 2 * k + 2 * t ≡ 2 * (k + t) = omega arith in
+      let im : 2 * k + (2 * t + 1) ≡ 2 * (k + t) + 1 = omega arith in
+      let one = entry-part (2 * t) (omega arith) ∙ ap (λ (i : ℕ). getD xs i nan) re in
+      let two = entry-part (2 * t + 1) (omega arith) ∙ ap (λ (i : ℕ). getD xs i nan) im in
+      λ z. pair (one z) (two z)
+
+  pub bin-part : binPairs 1 part 0 ≡ column xs 1 k n
+  bin-part =
+      let all : spectraIn 1 (length part) ≡ n = rw length-part (omega arith) in
+      rw (all, one-bin part 0 n, one-bin xs k n) (upTo-same _ _ n (λ t l. ap (pairAt part) (zero-add t) ∙ pair-part t l))

@@ -1,4 +1,4 @@
-//! Captures that are timed: those of a band in mode 3 with little noise.
+//! Captures that are timed: those of a band with little noise.
 //!
 //! The port takes floats one behind another, the Rust pairs in lists; both are made before the time is
 //! taken. Each answer of the port is first seen to be that of the Rust, and what was put into the capture.
@@ -11,14 +11,24 @@ use crate::C32;
 use crate::acquire::{Acquire, Oracle};
 use crate::harness::rng::Rng;
 use crate::harness::timing::{Effort, Row, thousands, time};
-use crate::isdb::params::Mode;
+use crate::isdb::params::{Mode, SYMBOLS_PER_FRAME};
 use std::hint::black_box;
 
-/// The mode of all spectra, and of the samples.
+/// The mode of what is timed in one mode alone.
 pub const MODE: Mode = Mode::M3;
 
-/// Numbers of spectra.
-const SPECTRA: [usize; 2] = [32, 1024];
+/// Modes, and the numbers of spectra that are timed in each.
+type Counts = [(Mode, &'static [usize])];
+
+/// Few and many, in one mode.
+pub const FEW_AND_MANY: &Counts = &[(MODE, &[32, MANY])];
+
+/// Up to those of a frame in every mode, and many in one.
+pub const EVERY_MODE: &Counts = &[
+    (MODE, &[8, 32, SYMBOLS_PER_FRAME, MANY]),
+    (Mode::M2, &[8, 32, SYMBOLS_PER_FRAME]),
+    (Mode::M1, &[8, 32, SYMBOLS_PER_FRAME]),
+];
 
 /// From so many spectra on there are few rounds, on one capture.
 const MANY: usize = 1024;
@@ -66,12 +76,12 @@ pub struct Capture {
 }
 
 impl Capture {
-    fn new(rng: &mut Rng, choice: u16, places: Places, count: usize) -> Self {
-        let mut band = Band::new(rng, MODE, choice);
+    pub fn new(rng: &mut Rng, mode: Mode, choice: u16, places: Places, count: usize) -> Self {
+        let mut band = Band::new(rng, mode, choice);
         (band.noise, band.slope) = (NOISE, SLOPE);
         (band.scale, band.whole) = (1.0, false);
         let floats = band.spectra(rng, places, count);
-        let spectra = Oracle::spectra(&floats, places.count(MODE));
+        let spectra = Oracle::spectra(&floats, places.count(mode));
         Self {
             band,
             floats,
@@ -81,16 +91,16 @@ impl Capture {
 }
 
 /// The captures of a row, each of `count` spectra.
-pub fn captures(choice: u16, places: Places, count: usize) -> Vec<Capture> {
+pub fn captures(mode: Mode, choice: u16, places: Places, count: usize) -> Vec<Capture> {
     let mut rng = Rng::new(1);
     let number = if count < MANY { CAPTURES } else { 1 };
-    let capture = |_| Capture::new(&mut rng, choice, places, count);
+    let capture = |_| Capture::new(&mut rng, mode, choice, places, count);
     (0..number).map(capture).collect()
 }
 
 /// The words of an operation on `count` spectra.
-pub fn of_spectra(what: &str, count: usize) -> String {
-    let (count, mode) = (thousands(count), MODE.number());
+pub fn of_spectra(what: &str, mode: Mode, count: usize) -> String {
+    let (count, mode) = (thousands(count), mode.number());
     format!("{what} of {count} spectra, mode {mode}")
 }
 
@@ -102,13 +112,19 @@ pub fn in_turn(effort: &Effort) -> Effort {
     }
 }
 
-/// A row for each number of spectra. Of the many there are few rounds.
-pub fn few_and_many(effort: &Effort, row: fn(usize, &Effort) -> Row) -> Vec<Row> {
+/// A row for each number of spectra of each mode. Of the many there are few rounds.
+pub fn rows(effort: &Effort, counts: &Counts, row: fn(Mode, usize, &Effort) -> Row) -> Vec<Row> {
     let few = Effort {
         rounds: FEW_ROUNDS,
         calls: 1,
         ..*effort
     };
-    let row_of = |count| row(count, &if count < MANY { in_turn(effort) } else { few });
-    SPECTRA.map(row_of).into()
+    let mut rows = Vec::new();
+    for &(mode, counts) in counts {
+        for &count in counts {
+            let effort = if count < MANY { in_turn(effort) } else { few };
+            rows.push(row(mode, count, &effort));
+        }
+    }
+    rows
 }

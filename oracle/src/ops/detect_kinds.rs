@@ -229,7 +229,8 @@ pub struct KindsArguments {
 }
 
 impl KindsArguments {
-    fn ask(&self, port: Port, spectra: &[f32]) -> Result<KindsFound, u8> {
+    /// The port's answer, or the refusal.
+    pub fn ask(&self, port: Port, spectra: &[f32]) -> Result<KindsFound, u8> {
         let mut ratios = vec![0.0; self.mode.total_carriers()];
         let (mut kinds, mut scores) = ([0; SEGMENTS], [0.0; SEGMENTS]);
         let mode = self.mode.number();
@@ -274,40 +275,40 @@ impl Claim for KindsArguments {
 
 // ---- The benchmark
 
-fn port_kinds(floats: &[f32], ratios: &mut [f32]) -> ([u8; SEGMENTS], [f32; SEGMENTS]) {
+fn port_kinds(mode: Mode, floats: &[f32], ratios: &mut [f32]) -> ([u8; SEGMENTS], [f32; SEGMENTS]) {
     let (mut kinds, mut scores) = ([0; SEGMENTS], [0.0; SEGMENTS]);
-    let number = black_box(timed::MODE.number());
+    let number = black_box(mode.number());
     let code = ffi::detect_kinds(number, floats, ratios, &mut kinds, &mut scores);
     assert_eq!(code, 0, "the kinds are accepted");
     (kinds, scores)
 }
 
 /// The kinds of `count` spectra.
-fn kinds_row(count: usize, effort: &Effort) -> timing::Row {
-    let captures = captures(MIXED, Places::Carriers, count);
-    let mut ratios = vec![0.0; timed::MODE.total_carriers()];
+fn kinds_row(mode: Mode, count: usize, effort: &Effort) -> timing::Row {
+    let captures = captures(mode, MIXED, Places::Carriers, count);
+    let mut ratios = vec![0.0; mode.total_carriers()];
     for Capture { floats, .. } in &captures {
-        let (kinds, scores) = port_kinds(floats, &mut ratios);
+        let (kinds, scores) = port_kinds(mode, floats, &mut ratios);
         assert_eq!(kinds, kind_bytes(MIXED));
         let found = KindsFound {
             kinds,
             scores,
             ratios: ratios.clone(),
         };
-        assert!(answer::<Oracle>(timed::MODE.number(), floats, ratios.len()) == Ok(found));
+        assert!(answer::<Oracle>(mode.number(), floats, ratios.len()) == Ok(found));
     }
     let at = |i: usize| &captures[i % captures.len()];
     row(
-        of_spectra("kinds", count),
+        of_spectra("kinds", mode, count),
         "`detect_kinds`",
         effort,
-        |i| port_kinds(&at(i).floats, &mut ratios),
-        |i| acquire::detect_kinds(timed::MODE, &at(i).spectra),
+        |i| port_kinds(mode, &at(i).floats, &mut ratios),
+        |i| acquire::detect_kinds(mode, &at(i).spectra),
     )
 }
 
 fn bench(effort: &Effort) -> Vec<timing::Row> {
-    timed::few_and_many(effort, kinds_row)
+    timed::rows(effort, timed::EVERY_MODE, kinds_row)
 }
 
 // ---- Stored answers

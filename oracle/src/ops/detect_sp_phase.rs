@@ -329,9 +329,9 @@ impl Claim for PhaseArguments {
 
 // ---- The benchmark
 
-fn port_phase(kinds: &[u8; SEGMENTS], floats: &[f32]) -> Phase {
+fn port_phase(mode: Mode, kinds: &[u8; SEGMENTS], floats: &[f32]) -> Phase {
     let asked = PhaseArguments {
-        mode: black_box(timed::MODE),
+        mode: black_box(mode),
         kinds: *kinds,
     };
     let phase = asked.ask(linked, floats).expect("the phase is accepted");
@@ -340,28 +340,28 @@ fn port_phase(kinds: &[u8; SEGMENTS], floats: &[f32]) -> Phase {
 }
 
 /// The pilot phase of `count` spectra. The Rust's layout is made before the time is taken.
-fn phase_row(count: usize, effort: &Effort) -> timing::Row {
-    let captures = captures(COHERENT, Places::Carriers, count);
-    let layout = FrameLayout::new(timed::MODE, kinds_of_choice(COHERENT));
+fn phase_row(mode: Mode, count: usize, effort: &Effort) -> timing::Row {
+    let captures = captures(mode, COHERENT, Places::Carriers, count);
+    let layout = FrameLayout::new(mode, kinds_of_choice(COHERENT));
     let kinds = kind_bytes(COHERENT);
     for Capture { band, floats, .. } in &captures {
-        let phase = port_phase(&kinds, floats);
+        let phase = port_phase(mode, &kinds, floats);
         assert_eq!(phase.phase().map(usize::from), Some(band.phase));
-        let right = answer::<Oracle>(timed::MODE.number(), &kinds, floats);
+        let right = answer::<Oracle>(mode.number(), &kinds, floats);
         assert_eq!(right, Ok(phase));
     }
     let at = |i: usize| &captures[i % captures.len()];
     row(
-        of_spectra("pilot phase", count),
+        of_spectra("pilot phase", mode, count),
         "`detect_sp_phase`, of a layout already made",
         effort,
-        |i| port_phase(&kinds, &at(i).floats),
+        |i| port_phase(mode, &kinds, &at(i).floats),
         |i| acquire::detect_sp_phase(&layout, &at(i).spectra),
     )
 }
 
 fn bench(effort: &Effort) -> Vec<timing::Row> {
-    timed::few_and_many(effort, phase_row)
+    timed::rows(effort, timed::FEW_AND_MANY, phase_row)
 }
 
 // ---- Stored answers

@@ -385,7 +385,7 @@ fn rust_grid(estimator: &mut ChannelEstimator, capture: &Capture) {
 /// Windows in turn. The Rust's layout is made before the time is taken.
 fn bench(effort: &Effort) -> Vec<timing::Row> {
     let effort = &in_turn(effort);
-    let captures = captures(COHERENT, Places::Carriers, 2 * side() + 1);
+    let captures = captures(timed::MODE, COHERENT, Places::Carriers, 2 * side() + 1);
     let layout = FrameLayout::new(timed::MODE, kinds_of_choice(COHERENT));
     let kinds = kind_bytes(COHERENT);
     let mut grid = vec![0.0; grid_floats(timed::MODE)];
@@ -401,7 +401,7 @@ fn bench(effort: &Effort) -> Vec<timing::Row> {
         port_grid(&kinds, at(i), &mut grid);
         black_box(&mut grid);
     };
-    let what = of_spectra("grid", captures[0].spectra.len());
+    let what = of_spectra("grid", timed::MODE, captures[0].spectra.len());
     let row = |part, times| timing::Row {
         operation: format!("{what}, time window {W}"),
         part,

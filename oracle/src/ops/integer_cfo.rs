@@ -271,7 +271,8 @@ pub fn score(pattern: &[usize], ratios: &[f32], shift: i64) -> f32 {
 }
 
 impl ShiftArguments {
-    fn ask(&self, port: Port, spectra: &[f32]) -> Result<Shift, u8> {
+    /// The port's answer, or the refusal.
+    pub fn ask(&self, port: Port, spectra: &[f32]) -> Result<Shift, u8> {
         let mut ratios = vec![0.0; self.mode.fft_size()];
         let (mut shift, mut score) = (0, 0.0);
         let code = port(
@@ -377,40 +378,40 @@ impl Claim for ShiftArguments {
 /// The bound of the shift.
 const BOUND: usize = 100;
 
-fn port_shift(floats: &[f32], ratios: &mut [f32]) -> (i64, f32) {
+fn port_shift(mode: Mode, floats: &[f32], ratios: &mut [f32]) -> (i64, f32) {
     let (mut shift, mut score) = (0, 0.0);
-    let number = black_box(timed::MODE.number());
+    let number = black_box(mode.number());
     let code = ffi::integer_cfo(number, floats, BOUND, ratios, &mut shift, &mut score);
     assert_eq!(code, 0, "the shift is accepted");
     (shift, score)
 }
 
 /// The shift of `count` spectra.
-fn shift_row(count: usize, effort: &Effort) -> timing::Row {
-    let captures = captures(MIXED, Places::Bins, count);
-    let mut ratios = vec![0.0; timed::MODE.fft_size()];
+fn shift_row(mode: Mode, count: usize, effort: &Effort) -> timing::Row {
+    let captures = captures(mode, MIXED, Places::Bins, count);
+    let mut ratios = vec![0.0; mode.fft_size()];
     for Capture { band, floats, .. } in &captures {
-        let (shift, score) = port_shift(floats, &mut ratios);
+        let (shift, score) = port_shift(mode, floats, &mut ratios);
         assert_eq!(shift, band.shift);
         let found = Shift {
             shift,
             score,
             ratios: ratios.clone(),
         };
-        assert!(answer::<Oracle>(timed::MODE.number(), floats, BOUND, ratios.len()) == Ok(found));
+        assert!(answer::<Oracle>(mode.number(), floats, BOUND, ratios.len()) == Ok(found));
     }
     let at = |i: usize| &captures[i % captures.len()];
     row(
-        of_spectra("shift", count),
+        of_spectra("shift", mode, count),
         "`integer_cfo`",
         effort,
-        |i| port_shift(&at(i).floats, &mut ratios),
-        |i| acquire::integer_cfo(timed::MODE, &at(i).spectra, BOUND),
+        |i| port_shift(mode, &at(i).floats, &mut ratios),
+        |i| acquire::integer_cfo(mode, &at(i).spectra, BOUND),
     )
 }
 
 fn bench(effort: &Effort) -> Vec<timing::Row> {
-    timed::few_and_many(effort, shift_row)
+    timed::rows(effort, timed::EVERY_MODE, shift_row)
 }
 
 // ---- Stored answers

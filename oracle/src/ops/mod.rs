@@ -2,6 +2,7 @@
 //! the calls that are compared, its rows of the benchmark, its stored answers. The programs `compare`,
 //! `bench` and `store` go through [`OPERATIONS`] and know no operation by its name.
 
+pub mod bin_ratio;
 pub mod carrier_bin;
 pub mod continual_list;
 pub mod data_list;
@@ -49,7 +50,7 @@ pub struct Operation {
 }
 
 /// Every operation, part by part.
-pub const OPERATIONS: [Operation; 18] = [
+pub const OPERATIONS: [Operation; 19] = [
     carrier_bin::OPERATION,
     role_map::OPERATION,
     sign_map::OPERATION,
@@ -57,6 +58,7 @@ pub const OPERATIONS: [Operation; 18] = [
     continual_list::OPERATION,
     samples_needed::OPERATION,
     detect_mode::OPERATION,
+    bin_ratio::OPERATION,
     integer_cfo::OPERATION,
     detect_kinds::OPERATION,
     tmcc_soft::OPERATION,
@@ -161,7 +163,7 @@ mod tests {
                 .then_some(name)
         };
         let functions = distinct(header.lines().filter_map(declared));
-        assert!(functions.len() >= 17, "{functions:?}");
+        assert!(functions.len() >= 18, "{functions:?}");
         let rows = distinct(numbered().into_iter().map(|(_, row)| row.name));
         assert_eq!(functions, rows);
     }

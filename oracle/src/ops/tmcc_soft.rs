@@ -210,7 +210,7 @@ fn port_soft(kinds: &[u8], floats: &[f32]) -> f32 {
 
 /// Of all segments. The Rust's layout is made before the time is taken.
 fn bench(effort: &Effort) -> Vec<timing::Row> {
-    let captures = captures(MIXED, Places::Carriers, 2);
+    let captures = captures(timed::MODE, MIXED, Places::Carriers, 2);
     let layout = FrameLayout::new(timed::MODE, kinds_of_choice(MIXED));
     let kinds = kind_bytes(MIXED);
     for Capture { floats, .. } in &captures {
@@ -219,7 +219,7 @@ fn bench(effort: &Effort) -> Vec<timing::Row> {
     }
     let at = |i: usize| &captures[i % captures.len()];
     vec![row(
-        of_spectra("soft TMCC value", 2),
+        of_spectra("soft TMCC value", timed::MODE, 2),
         "`tmcc_soft`, of a layout already made",
         &in_turn(effort),
         |i| port_soft(&kinds, &at(i).floats),

@@ -2,6 +2,7 @@
 //! that the random calls meet what is hard. What is checked of the oracle is checked of the port as
 //! well, where the port is asked. A module has the tests of one operation.
 
+mod bin_ratio;
 mod detect_kinds;
 mod detect_mode;
 mod detect_sp_phase;

@@ -2,6 +2,7 @@
 //! must be found. So must ports that break what is claimed of changed captures. A module has the
 //! mistakes of one operation.
 
+mod bin_ratio;
 mod carrier_bin;
 mod continual_list;
 mod data_list;
