@@ -71,12 +71,18 @@ pub fn carrier_bin(mode: Mode, k: BandCarrier) -> FftBin
     FftBin((k.0 + (n - center)) % n)
 }
 
-// A bin moved up by `up` bins, round the n bins of an FFT. The bounds keep the sum from wrapping.
+// A bin moved up by `up` bins, round the n bins of an FFT. Both lie below n, so the sum comes round
+// once at the most, and a subtraction does what a division would. No FFT has more than 8,192 bins,
+// so the sum fits.
 pub fn moved_up(bin: FftBin, up: usize, n: usize) -> FftBin
-    requires { ⌜ (0 < n) × (up ≤ 16384) × (bin .0 < 4294967296) ⌝ }
+    requires { ⌜ (bin .0 < n) × (up < n) × (n ≤ 8192) ⌝ }
     ensures { λ r. ⌜ r .0 ≡ (bin .0 + up) % n ⌝ }
 {
-    FftBin((bin.0 + up) % n)
+    let far = bin.0 + up;
+    if far < n {
+        return FftBin(far);
+    }
+    FftBin(far - n)
 }
 
 // Room for a byte for each carrier of the largest band.

@@ -22,7 +22,7 @@ use Rattle.shift.specs.declared.ShiftAnswer.the-variants.{Found, Refused
 use Rattle.shift.specs.Shift.{pattern, scoreOf, winner, bestShift, shiftCode, shiftLeaves, shiftAnswer, shiftNumber, Shifted}
 use Rattle.shift.specs.Facts.{shift-number}
 use Rattle.shift.specs.Inner.{Put, Bounded, BestFound}
-use Rattle.shift.proofs.Segments.{pattern-few}
+use Rattle.shift.proofs.Segments.{pattern-few, pattern-inside}
 
 -- ---- the pattern in front of the buffer
 module _ (m : Mode) (old out : List ℕ) (r : ℕ) (p : Put (pattern m) old 0 r out) (size : 105 ≡ length old) where
@@ -51,11 +51,12 @@ mode-bins m n e = omega (arith, sized m .band, sized m .within, sized m .fft-hig
 pub shift-small : (m : Mode) (n at bound : ℕ) → n ≡ fftSize m → bound ≤ n / 2 → at ≤ 2 * bound → at + bound < 16777216
 shift-small m n at bound size h i = omega (arith, mode-bins m n size)
 
-pub searchable : (m : Mode) (xs now : List Float) (n bound : ℕ) → n ≡ fftSize m → now ≡ binRatios n xs → bound ≤ n / 2 → Bounded (length now) bound
-searchable m xs now n bound size left h =
+pub searchable : (m : Mode) (xs now : List Float) (bins : List ℕ) (n bound : ℕ) → n ≡ fftSize m → now ≡ binRatios n xs → bins ≡ pattern m
+    → bound ≤ n / 2 → Bounded bins (length now) bound
+searchable m xs now bins n bound size left are h =
     let all : length now ≡ n = rw left (ratios-length n xs) in
-    let bins = mode-bins m n size in
-    record { some = omega arith; few = omega arith; within = omega arith }
+    let sizes = mode-bins m n size in
+    record { inside = rw (are, all, size) (pattern-inside m); some = omega arith; few = omega arith; within = omega arith }
 
 -- ---- `continual_metric` refuses nothing that was let pass by its own number
 pub written : (n : ℕ) (xs old now : List Float) (code r : ℕ) → code ≡ metricCode n (length xs) (length old) 0 → code ≡ 0 → MetricTaken n xs old r now

@@ -2,9 +2,9 @@
 -- Assumes nothing.
 use Prim.Native.Nat.{ℕ, zero, suc, _+_, _*_, _-_, _%_, _≤_, _<_}
 use mathlib.Core.List.{List, map-congr-left}
-use mathlib.Core.Path.{_≡_, sym, ap}
+use mathlib.Core.Path.{_≡_, sym, ap, _∙_}
 use native.Mathlib.Decide.{decLt}
-use native.Mathlib.Nat.{add-mod-right, add-mul-mod-self-right, mul-suc, suc-mul}
+use native.Mathlib.Nat.{add-mod-mod, add-mod-right, add-mul-mod-self-right, mul-suc, suc-mul}
 use native.Mathlib.Omega.{arith}
 use lib.ListN.{length, getD}
 use lib.Ieee.{Float, nan, binary32, minus}
@@ -32,8 +32,12 @@ moved n b j bound s h = by (decLt j bound)
         let e : b + suc d * (n - 1) ≡ (b + (j + (n - bound))) + d * n = omega (arith, turns n d s (omega arith)) in
         rw (minus-below j bound l, e) (add-mul-mod-self-right (b + (j + (n - bound))) d n)
 
+-- the move may be brought below n first
+moved-less : (n b j bound : ℕ) → 0 < n → bound ≤ n → movedBin n b (minus j bound) ≡ (b + (j + (n - bound)) % n) % n
+moved-less n b j bound s h = moved n b j bound s h ∙ sym (add-mod-mod b (j + (n - bound)) n)
+
 pub sum-moved : (bins : List ℕ) (ratios : List Float) (j bound : ℕ) → 0 < length ratios → bound ≤ length ratios
-    → sumAt (length ratios) bins ratios (minus j bound) ≡ sumUp bins ratios (j + (length ratios - bound))
+    → sumAt (length ratios) bins ratios (minus j bound) ≡ sumUp bins ratios ((j + (length ratios - bound)) % length ratios)
 unfolding sumAt sumUp
 sum-moved bins ratios j bound s h =
-    ap (total binary32 minusZero) (map-congr-left {l = bins} (λ b m. ap (λ (k : ℕ). getD ratios k nan) (moved (length ratios) b j bound s h)))
+    ap (total binary32 minusZero) (map-congr-left {l = bins} (λ b m. ap (λ (k : ℕ). getD ratios k nan) (moved-less (length ratios) b j bound s h)))

@@ -1,6 +1,6 @@
 -- What `search` keeps: the best so far is the winner among the shifts passed.
 -- Assumes nothing.
-use Prim.Native.Nat.{ℕ, _+_, _*_, _-_, _≤_, _<_}
+use Prim.Native.Nat.{ℕ, _+_, _*_, _-_, _%_, _≤_, _<_}
 use mathlib.Core.Bool.{Bool, true, false, cond}
 use mathlib.Core.List.{List, map, map-append}
 use mathlib.Core.Path.{_≡_, sym, ap, _∙_}
@@ -33,8 +33,8 @@ module _ (bins : List ℕ) (ratios : List Float) (bound : ℕ) where
   search-begin = record { count = omega arith; inside = omega arith; wins = ap (λ (z : ℤ). winner z lowest) (minus-self bound) }
 
   -- s is the sum of shift number j
-  module _ (j : ℕ) (best : Best) (w : Passed j best) (b : Bounded (length ratios) bound) (h : j ≤ 2 * bound) (s : Float)
-      (e : s ≡ sumUp bins ratios (j + (length ratios - bound))) where
+  module _ (j : ℕ) (best : Best) (w : Passed j best) (b : Bounded bins (length ratios) bound) (h : j ≤ 2 * bound) (s : Float)
+      (e : s ≡ sumUp bins ratios ((j + (length ratios - bound)) % length ratios)) where
     next : (greater : Bool) → lt (best .sum) s ≡ greater
         → won (j + 1) ≡ cond greater (winner (minus j bound) s) (winner (minus (best .at) bound) (best .sum))
     next greater g =

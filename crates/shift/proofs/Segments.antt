@@ -1,6 +1,6 @@
 -- What `put_pattern` keeps: the bins of the segments so far are stored behind one another.
 -- Assumes nothing.
-use Prim.Native.Nat.{ℕ, _+_, _*_, _-_, _≤_, _<_}
+use Prim.Native.Nat.{ℕ, zero, suc, _+_, _*_, _-_, _≤_, _<_}
 use mathlib.Core.List.{List, [], _∷_, _++_, map, map-append, map-map}
 use mathlib.Core.Path.{_≡_, refl, ap, _∙_}
 use native.Mathlib.Numerals.{add-one}
@@ -13,12 +13,12 @@ use Rattle.lists.specs.Fill.{joined-range, sets-append}
 use Rattle.params.specs.declared.Mode.{Mode}
 use Rattle.params.specs.declared.Mode.the-variants.{M1, M2, M3}
 use Rattle.params.specs.declared.SegmentKind.the-variants.{Coherent}
-use Rattle.params.specs.Params.{carriersPerSegment, totalCarriers}
+use Rattle.params.specs.Params.{carriersPerSegment, totalCarriers, fftSize}
 use Rattle.tables.specs.Places.{ac1Of}
 use Rattle.ofdm.specs.Band.{placeOf, binOf}
 use Rattle.shift.specs.Shift.{patternCarriers, pattern}
-use Rattle.shift.specs.Inner.{segmentBins, Put}
-use Rattle.shift.proofs.AcRow.{row-few}
+use Rattle.shift.specs.Inner.{segmentBins, Put, Inside}
+use Rattle.shift.proofs.AcRow.{row-few, bin-below}
 
 -- ys stored behind xs
 put-more : (xs ys old mid out : List ℕ) (at i r : ℕ) → Put xs old at i mid → Put ys mid i r out → Put (xs ++ ys) old at r out
@@ -50,6 +50,17 @@ unfolding pattern patternCarriers
 pattern-few M1 = lit≤ tt
 pattern-few M2 = lit≤ tt
 pattern-few M3 = lit≤ tt
+
+-- what f makes of a list lies below n where all that f gives does
+map-inside : (f : ℕ → ℕ) (n : ℕ) → ((k : ℕ) → f k < n) → (ks : List ℕ) → Inside (map f ks) n
+map-inside f n h [] i l = absurd (omega arith)
+map-inside f n h (k ∷ ks) zero l = h k
+map-inside f n h (k ∷ ks) (suc i) l = map-inside f n h ks i (omega arith)
+
+-- a carrier's bin is a remainder modulo n
+pub pattern-inside : (mode : Mode) → Inside (pattern mode) (fftSize mode)
+unfolding pattern
+pattern-inside mode = map-inside (binOf mode) (fftSize mode) (bin-below mode) (patternCarriers mode)
 
 module _ (mode : Mode) (old : List ℕ) where
   -- the segments below seg are stored

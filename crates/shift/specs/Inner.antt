@@ -34,13 +34,19 @@ pub record Put (xs out : List ℕ) (at r : ℕ) (out' : List ℕ) : Type 0 where
 unfoldable pub sumUp : List ℕ → List Float → ℕ → Float
 sumUp bins ratios up = total binary32 minusZero (map (λ b. getD ratios ((b + up) % length ratios) nan) bins)
 
--- there are n bins to move among, and a moved number fits
-pub record Movable (n up : ℕ) : Type 0 where
-  pub some : 0 < n
-  pub small : up ≤ 16384
+-- each of the bins is one of n
+abbrev pub Inside : List ℕ → ℕ → Type 0
+Inside bins n = (i : ℕ) → i < length bins → getD bins i 0 < n
+
+-- bins among n, and a move below n, so that a bin comes round once at the most; what is added up fits
+pub record Movable (bins : List ℕ) (n up : ℕ) : Type 0 where
+  pub inside : Inside bins n
+  pub once : up < n
+  pub few : n ≤ 8192
 
 -- ---- the search over n ratios
-pub record Bounded (n bound : ℕ) : Type 0 where
+pub record Bounded (bins : List ℕ) (n bound : ℕ) : Type 0 where
+  pub inside : Inside bins n
   pub some : 0 < n
   pub few : n ≤ 8192
   pub within : bound ≤ n

@@ -77,7 +77,7 @@ fn put_pattern(mode: Mode, out: &mut [u32]) -> usize
 
 // The sum of the ratios at the pattern's bins, each moved up by `up` modulo the ratios' length.
 fn pattern_sum(bins: &[u32], ratios: &[f32], up: usize) -> f32
-    requires { ⌜ Movable (length (now ratios)) up ⌝ }
+    requires { ⌜ Movable (now bins) (length (now ratios)) up ⌝ }
     ensures { λ r. ⌜ r ≡ sumUp (now (bins .entry)) (now (ratios .entry)) up ⌝ }
 {
     let n = ratios.len();
@@ -93,9 +93,10 @@ fn pattern_sum(bins: &[u32], ratios: &[f32], up: usize) -> f32
     sum
 }
 
-// The best of the shifts from -bound to bound: only a greater sum replaces.
+// The best of the shifts from -bound to bound: only a greater sum replaces. A shift is brought
+// below n here, once, so that none of its bins takes a division.
 fn search(bins: &[u32], ratios: &[f32], bound: usize) -> Best
-    requires { ⌜ Bounded (length (now ratios)) bound ⌝ }
+    requires { ⌜ Bounded (now bins) (length (now ratios)) bound ⌝ }
     ensures { λ r. ⌜ BestFound (now (bins .entry)) (now (ratios .entry)) bound r ⌝ }
 {
     let n = ratios.len();
@@ -105,7 +106,7 @@ fn search(bins: &[u32], ratios: &[f32], bound: usize) -> Best
     };
     let mut j: usize = 0;
     while j <= 2 * bound {
-        let sum = pattern_sum(bins, ratios, j + (n - bound));
+        let sum = pattern_sum(bins, ratios, (j + (n - bound)) % n);
         if sum > best.sum {
             best = Best { at: j, sum: sum };
         }

@@ -65,7 +65,9 @@ search-requires c κs =
     let r = k .before .before .before .before in
     let f = r .before in
     let left = written _ _ _ _ _ _ (r .refusal .ensures) (k .before .before .before .if1 .left) (k .continual-metric .ensures) in
-    searchable (f .before .before .m .given .0 .0) _ _ _ _ (f .fft-size .ensures) left (k .before .before .if2 .left)
+    let p = c .before .before .before in
+    let bins = front-is _ _ _ _ (p .put-pattern .ensures) (p .before .before .pattern-buffer .ensures) in
+    searchable (f .before .before .m .given .0 .0) _ _ _ _ _ (f .fft-size .ensures) left bins (k .before .before .if2 .left)
 
 cast-shift : tie.Need-cast-shift
 cast-shift c =

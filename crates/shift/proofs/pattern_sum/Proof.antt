@@ -3,12 +3,11 @@
 use Prim.Native.Nat.{_+_, _-_, _%_, _≤_}
 use mathlib.Core.List.{map}
 use mathlib.Core.Path.{_≡_, refl}
-use native.Mathlib.Nat.{mod-lt}
 use lib.Ieee.{nan, binary32}
 use lib.ListN.{length, getD, drop}
 use Rattle.ieee.specs.Sums.{total}
 use Rattle.shift.specs.Inner.{sumUp}
-use Rattle.shift.proofs.Adding.{add-again, add-done}
+use Rattle.shift.proofs.Adding.{moved-inside, add-again, add-done}
 use native.Mathlib.Omega.{arith}
 use Rattle.shift.proofs.pattern_sum.Statement.{statement}
 use Rattle.shift.proofs.pattern_sum.Tie as tie
@@ -36,19 +35,20 @@ cast-bin c = omega (arith, c .shared-slice-known3 .given (c .before .before .loo
 moved-up-requires : tie.Need-moved-up-requires Inv-loop μ-loop
 moved-up-requires c κs =
     let l = c .before .before in
-    let s = l .before .before .before in
-    (s .pre .some, s .pre .small, omega (arith, c .shared-slice-known3 .given (l .loop .i)))
+    let pre = l .before .before .before .pre in
+    (pre .inside (l .loop .i) (c .before .loop-test .taken), pre .once, pre .few)
 
 mul-sum : tie.Need-mul-sum Inv-loop μ-loop
 mul-sum c =
-    let l = c .before .before .before in
-    let s = l .before .before .before in
-    omega (arith, c .moved-up .ensures, mod-lt (getD (s .args .bins .now) (l .loop .i) 0 + s .args .up) (s .pre .some))
+    let t = c .before .before in
+    let s = t .before .before .before .before in
+    omega (arith, moved-inside _ _ _ _ _ (s .pre) (t .loop-test .taken) (c .moved-up .ensures))
 
 shared-slice-read-sum : tie.Need-shared-slice-read-sum Inv-loop μ-loop
 shared-slice-read-sum c =
-    let s = c .before .before .before .before .before .before .before in
-    rw (c .before .moved-up .ensures) (mod-lt _ (s .pre .some))
+    let t = c .before .before .before in
+    let s = t .before .before .before .before in
+    moved-inside _ _ _ _ _ (s .pre) (t .loop-test .taken) (c .before .moved-up .ensures)
 
 add-i : tie.Need-add-i Inv-loop μ-loop
 add-i c = omega arith

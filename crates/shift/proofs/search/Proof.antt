@@ -2,6 +2,7 @@
 -- Assumes nothing.
 use Prim.Native.Nat.{_+_, _*_, _-_}
 use mathlib.Core.Logic.{⊎-elim}
+use native.Mathlib.Nat.{mod-lt}
 use Rattle.shift.proofs.Finding.{Passed, search-begin, search-take, search-keep, search-done}
 use native.Mathlib.Omega.{arith}
 use Rattle.shift.proofs.search.Statement.{statement}
@@ -25,8 +26,13 @@ sub-pattern-sum c = omega arith
 add-pattern-sum : tie.Need-add-pattern-sum Inv-loop μ-loop
 add-pattern-sum c = omega arith
 
+rem-pattern-sum : tie.Need-rem-pattern-sum Inv-loop μ-loop
+rem-pattern-sum c = omega arith
+
 pattern-sum-requires : tie.Need-pattern-sum-requires Inv-loop μ-loop
-pattern-sum-requires c κs = record { some = omega arith; small = omega arith }
+pattern-sum-requires c κs =
+    let pre = c .before .before .before .before .pre in
+    record { inside = pre .inside; once = mod-lt _ (pre .some); few = pre .few }
 
 add-j : tie.Need-add-j Inv-loop μ-loop
 add-j c = omega arith
@@ -56,6 +62,7 @@ search-spec =
     mul-loop
     sub-pattern-sum
     add-pattern-sum
+    rem-pattern-sum
     pattern-sum-requires
     add-j
     loop-less
