@@ -1,8 +1,9 @@
 -- Lists that definitions are made of: a function's values in order, parts one behind another, the numbers that pass a test.
 -- Definitions only.
-use Prim.Native.Nat.{ℕ, zero, suc, _+_}
+use Prim.Native.Nat.{ℕ, zero, suc, _+_, _<_}
 use mathlib.Core.Bool.{Bool, cond}
 use mathlib.Core.List.{List, [], _∷_, _++_}
+use lib.ListN.{length, getD}
 
 -- f at 0, 1, .. n - 1
 abbrev pub upTo : {A : Type 0} → (ℕ → A) → ℕ → List A
@@ -12,6 +13,10 @@ upTo f (suc n) = upTo f n ++ (f n ∷ [])
 -- 0, 1, .. n - 1
 abbrev pub range : ℕ → List ℕ
 range n = upTo (λ k. k) n
+
+-- each number of a list is below n
+abbrev pub Inside : List ℕ → ℕ → Type 0
+Inside xs n = (i : ℕ) → i < length xs → getD xs i 0 < n
 
 -- the list of each, one behind another
 abbrev pub joined : {A : Type 0} → (A → List ℕ) → List A → List ℕ

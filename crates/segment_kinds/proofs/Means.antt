@@ -12,13 +12,13 @@ use lib.Ieee.{Float, binary32, div, ofInt, inFloat}
 use Rattle.ieee.specs.Differences.{held-exactly}
 use Rattle.ieee.specs.Constants.{minusZero}
 use Rattle.ieee.specs.Sums.{total-append}
-use Rattle.lists.specs.Lists.{select}
+use Rattle.lists.specs.Lists.{select, Inside}
 use Rattle.lists.specs.Select.{select-append}
 use Rattle.params.specs.declared.Mode.{Mode}
 use Rattle.params.specs.Params.{carriersPerSegment}
 use Rattle.params.specs.Laws.{sized}
 use Rattle.segment_kinds.specs.declared.Mean.{Mean}
-use Rattle.segment_kinds.specs.Inner.{isTelling, kept, ratioAt, Inside, Banded, Addable, Added, meanOf, Scorable}
+use Rattle.segment_kinds.specs.Inner.{isTelling, kept, ratioAt, Banded, Addable, Added, meanOf, Scorable}
 
 added-both : (f : ℕ → Float) (xs ys : List ℕ) (s r t : Mean) → Added s f xs r → Added r f ys t → Added s f (xs ++ ys) t
 added-both f xs ys s r t g h =

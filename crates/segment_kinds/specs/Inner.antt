@@ -9,7 +9,7 @@ use lib.ListN.{getD, length}
 use lib.Ieee.{Float, nan, binary32, div, ofInt}
 use Rattle.ieee.specs.Constants.{plusZero, minusZero}
 use Rattle.ieee.specs.Sums.{total}
-use Rattle.lists.specs.Lists.{upTo, select}
+use Rattle.lists.specs.Lists.{upTo, select, Inside}
 use Rattle.lists.specs.Tests.{memb}
 use Rattle.params.specs.declared.Mode.{Mode}
 use Rattle.params.specs.Params.{carriersPerSegment, totalCarriers}
@@ -24,10 +24,6 @@ isTelling tmcc ac1 p = not (memb p (tmcc ++ ac1))
 -- those of the places that tell
 abbrev pub kept : List ℕ → List ℕ → List ℕ → List ℕ
 kept tmcc ac1 places = select (isTelling tmcc ac1) places
-
--- each of the places lies below n
-abbrev pub Inside : List ℕ → ℕ → Type 0
-Inside places n = (i : ℕ) → i < length places → getD places i 0 < n
 
 -- the ratio of the carrier at place p of the segment at a place of the band
 abbrev pub ratioAt : Mode → ℕ → List Float → ℕ → Float

@@ -8,7 +8,7 @@ use native.Mathlib.Omega.{arith}
 use lib.Dec.{lit≤}
 use lib.ListN.{length, set, length-append, length-map}
 use lib.Seq.{length-sets}
-use Rattle.lists.specs.Lists.{range, joined}
+use Rattle.lists.specs.Lists.{range, joined, Inside}
 use Rattle.lists.specs.Fill.{joined-range, sets-append}
 use Rattle.params.specs.declared.Mode.{Mode}
 use Rattle.params.specs.declared.Mode.the-variants.{M1, M2, M3}
@@ -17,7 +17,7 @@ use Rattle.params.specs.Params.{carriersPerSegment, totalCarriers, fftSize}
 use Rattle.tables.specs.Places.{ac1Of}
 use Rattle.ofdm.specs.Band.{placeOf, binOf}
 use Rattle.shift.specs.Shift.{patternCarriers, pattern}
-use Rattle.shift.specs.Inner.{segmentBins, Put, Inside}
+use Rattle.shift.specs.Inner.{segmentBins, Put}
 use Rattle.shift.proofs.AcRow.{row-few, bin-below}
 
 -- ys stored behind xs

@@ -8,6 +8,7 @@ use lib.Ieee.{Float, nan, binary32, minus}
 use lib.Seq.{sets}
 use Rattle.ieee.specs.Constants.{minusZero}
 use Rattle.ieee.specs.Sums.{total}
+use Rattle.lists.specs.Lists.{Inside}
 use Rattle.params.specs.declared.Mode.{Mode}
 use Rattle.params.specs.declared.SegmentKind.the-variants.{Coherent}
 use Rattle.params.specs.Params.{carriersPerSegment}
@@ -33,10 +34,6 @@ pub record Put (xs out : List ℕ) (at r : ℕ) (out' : List ℕ) : Type 0 where
 -- ---- a shift's sum: every bin moved up, modulo n
 unfoldable pub sumUp : List ℕ → List Float → ℕ → Float
 sumUp bins ratios up = total binary32 minusZero (map (λ b. getD ratios ((b + up) % length ratios) nan) bins)
-
--- each of the bins is one of n
-abbrev pub Inside : List ℕ → ℕ → Type 0
-Inside bins n = (i : ℕ) → i < length bins → getD bins i 0 < n
 
 -- bins among n, and a move below n, so that a bin comes round once at the most; what is added up fits
 pub record Movable (bins : List ℕ) (n up : ℕ) : Type 0 where
