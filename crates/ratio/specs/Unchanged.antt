@@ -1,13 +1,15 @@
 -- What a change of spectra does to a bin's sums (`changed-sums`). Turn and sign leave the energy as it is, bit for bit, and the correlation but for
 -- the sign of a zero; the gain multiplies both by its fourth power. What is read off the sums follows: the ratio is the same, bit for bit, and so
--- is whether the energy is above zero.
+-- is whether the energy is above zero; and so is the answer to one bin's pairs alone.
 -- Assumes nothing.
 use Prim.Native.Nat.{ℕ, zero, suc, _≤_, _<_}
-use mathlib.Core.Bool.{Bool, false, cond}
+use mathlib.Core.Bool.{Bool, true, false, cond}
 use mathlib.Core.List.{List, [], _∷_, map}
 use mathlib.Core.Logic.{_⊎_, inl, inr}
 use mathlib.Core.Path.{_≡_, refl, sym, ap, _∙_}
 use native.Mathlib.Omega.{arith}
+use borrow.Author.Tests.{eqb-true}
+use lib.Dec.{eqb, lit<}
 use lib.ListN.{length, length-map}
 use lib.Ieee.{Float, binary32, binary64, unlike}
 use Rattle.ieee.specs.Constants.{plusZero}
@@ -24,8 +26,11 @@ use Rattle.complex.specs.Bounds.{stepLevel, termLevel, binLevel, part-gain, ste
 use Rattle.complex.specs.Bounds.{bin-sum-gain, bin-energy-gain, ratio-gain, above-zero-gain}
 use Rattle.spectra.specs.ChangedBins.{changedFrom, WholePairs, changed-bin, whole-bin, length-bin}
 use Rattle.spectra.specs.Changes.{Changed, Allowed}
+use Rattle.spectra.specs.Codes as spectra
 use Rattle.spectra.specs.Spectra.{binPairs, spectraIn}
+use Rattle.ratio.specs.declared.BinRatio.the-variants.{Ratio, Refused}
 use Rattle.ratio.specs.Ratio.{stepsFrom, steps, squareOf, sizeOf, correlation, energy, aboveZero, guarded, ratioOf, binRatios}
+use Rattle.ratio.specs.Ratio.{binRatioCode, binRatioAnswer}
 use Rattle.ratio.specs.Facts.{every-step}
 
 -- ---- the statement
@@ -204,3 +209,19 @@ pub changed-ratios : (c : Change) (len : ℕ) (xs ys : List Float) → spectraIn
     → binRatios len ys ≡ binRatios len xs
 unfolding binRatios
 changed-ratios c len xs ys N A h = upTo-same _ _ len (λ b B. changed-ratio-at c len (λ b. b) xs ys b B N A h)
+
+-- ---- one bin's pairs alone, as spectra of one bin: the answer is the same
+pub changed-answer : (c : Change) (xs ys : List Float) → Allowed c 1 xs → Changed c 1 (λ b. b) xs ys → binRatioAnswer ys ≡ binRatioAnswer xs
+unfolding binRatioAnswer
+changed-answer c xs ys A h =
+    (λ i. cond (eqb (binRatioCode (h .long i)) 0) (Ratio (ratioOf (binPairs 1 ys 0))) (Refused (binRatioCode (h .long i)))) ∙ by (eqb code 0) refl
+  where
+    code : ℕ
+    code = binRatioCode (length xs)
+
+    by : (b : Bool) → eqb code 0 ≡ b
+        → cond b (Ratio (ratioOf (binPairs 1 ys 0))) (Refused code) ≡ cond b (Ratio (ratioOf (binPairs 1 xs 0))) (Refused code)
+    by true e =
+        let few = spectra.accepted 1 (length xs) 0 (eqb-true code 0 e) .few in
+        ap Ratio (changed-ratio-at c 1 (λ b. b) xs ys 0 (lit< tt) few A h)
+    by false e = refl
