@@ -49,7 +49,7 @@ impl BinSums {
     }
 
     // The first n squares and squared sizes more, in their order.
-    pub fn add_terms(self, squares: &[f32], sizes: &[f32], n: usize) -> BinSums
+    fn add_terms(self, squares: &[f32], sizes: &[f32], n: usize) -> BinSums
         requires { ⌜ (2 * n ≤ length (now squares)) × (n ≤ length (now sizes)) ⌝ }
         ensures { λ r. ⌜ TermsAdded self (now (squares .entry)) (now (sizes .entry)) n r ⌝ }
     {
@@ -91,6 +91,7 @@ fn size_room() -> [f32; 16]
     [0.0; 16]
 }
 
+// The smaller of two numbers. The `ensures` has what callers use of that.
 fn smaller(a: usize, b: usize) -> usize
     ensures { λ r. ⌜ (r ≤ a) × (r ≤ b) × (0 < a → 0 < b → 0 < r) ⌝ }
 {
