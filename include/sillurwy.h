@@ -171,13 +171,14 @@ uint8_t sillurwy_detect_mode(const float *samples, size_t samples_len, const uin
                              double *im);
 
 /* The ratio of one bin, from its pairs alone: |sum of p x p| / sum of |p|^2, where p is the product
- * of a pair and the conjugate of the pair before it. A carrier that repeats itself from symbol to
- * symbol has about 1; one that carries data, over many symbols, about 0. Each ratio that
+ * of a pair and the conjugate of the pair before it. Over many symbols a carrier that repeats itself,
+ * or changes its sign alone, has about 1, and one that carries data about 0. Each ratio that
  * sillurwy_integer_cfo and sillurwy_detect_kinds leave is, bit for bit, what this gives for that
  * bin's pairs.
  *   pairs  the bin's pairs in symbol order, 1 to SILLURWY_MOST_SPECTRA of them, 2 floats each
- *   ratio  the answer: not below zero, and above 1 by rounding alone; a NaN where the sums overflow;
- *          +0.0 where the divisor is not above zero, and so for a single pair
+ *   ratio  the answer, not below zero; it may be a little above 1 by rounding, and where a sum
+ *          overflows a NaN, infinite or +0.0. It is +0.0 where the divisor is not above zero, and so
+ *          for a single pair
  * Refused: 5 an odd length, or too many pairs; 6 none. */
 uint8_t sillurwy_bin_ratio(const float *pairs, size_t pairs_len, float *ratio);
 

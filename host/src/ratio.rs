@@ -6,9 +6,10 @@ use crate::refusal::{accepted, Refusal};
 /// The ratio of one bin, from its pairs alone in symbol order: |sum of p·p| / sum of |p|², where p is
 /// the product of a pair and the conjugate of the pair before it.
 ///
-/// It has no unit, and the pairs may be in any. A carrier that repeats itself from symbol to symbol,
-/// or changes only its sign, has about 1, one that carries data about 0. It is `0.0` where the divisor
-/// is not above zero, and so for a single pair.
+/// It has no unit, and the pairs may be in any. Over many symbols a carrier that repeats itself, or
+/// changes its sign alone, has about 1, and one that carries data about 0. It is not below zero; it may
+/// be a little above 1 by rounding, and where a sum overflows a NaN, infinite or `0.0`. It is `0.0`
+/// where the divisor is not above zero, and so for a single pair.
 ///
 /// Refused: [`BadFloats`](Refusal::BadFloats) for an odd number of floats, or more pairs than
 /// [`MOST_SPECTRA`](crate::MOST_SPECTRA), since a spectrum has one pair of the bin;
@@ -30,8 +31,8 @@ use crate::refusal::{accepted, Refusal};
 /// ```
 ///
 /// Each ratio that [`integer_cfo`](crate::shift::integer_cfo) and
-/// [`detect_kinds`](crate::segment_kinds::detect_kinds) give is this of that bin's pairs, bit for bit.
-/// They take spectra one behind another, where the pairs of a bin lie a spectrum apart.
+/// [`detect_kinds`](crate::segment_kinds::detect_kinds) give is, bit for bit, what this gives for that
+/// bin's pairs. They take spectra one behind another, where the pairs of a bin lie a spectrum apart.
 ///
 /// ```
 /// use sillurwy::params::Mode;

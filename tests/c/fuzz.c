@@ -302,8 +302,8 @@ static bool accepted(uint8_t code, uint8_t owed)
     return code == 0;
 }
 
-/* The range of an accepted answer. The script takes the buffer's name from each call, a line by
- * itself, and makes a mistake in that buffer, here as below. */
+/* The range of an accepted answer, or what it must be. The script takes the buffer's name from each
+ * call, a line by itself, and makes a mistake in that buffer, here as below. */
 static void must(bool holds, const char *name)
 {
     if (!holds) {

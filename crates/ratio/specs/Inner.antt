@@ -30,7 +30,7 @@ pub record Stepped (s : BinSums) (x y : Pair) (r : BinSums) : Type 0 where
 abbrev pub stepAt : List Float → ℕ → Pair
 stepAt xs k = product binary32 (pairAt xs (k + 1)) (conjugate (pairAt xs k))
 
--- n products' squares and squared sizes, from product k on, are in front of two lists
+-- the squares and the squared sizes of n products, from product k on, stand first in two lists
 pub record TermsPut (xs : List Float) (k n : ℕ) (squares sizes : List Float) : Type 0 where
   pub squared : (i : ℕ) → i < n → pairAt squares i ≡ squareOf (stepAt xs (k + i))
   pub sized : (i : ℕ) → i < n → getD sizes i nan ≡ sizeOf (stepAt xs (k + i))

@@ -115,7 +115,8 @@ fn put_terms(pairs: &[f32], from: usize, n: usize, squares: &mut [f32], sizes: &
     }
 }
 
-// The sums of the first n products: sixteen are worked out, and then added up in their order.
+// The sums of the first n products: sixteen are worked out, and then added up in their order. Two small
+// arrays have room for them; with more, in a trial, nothing was gained.
 fn front_sums(pairs: &[f32], n: usize) -> BinSums
     requires { ⌜ 2 * (n + 1) ≤ length (now pairs) ⌝ }
     ensures { λ r. ⌜ SummedTo (now (pairs .entry)) n r ⌝ }
@@ -133,7 +134,8 @@ fn front_sums(pairs: &[f32], n: usize) -> BinSums
     sums
 }
 
-// The sums of all products of a bin's pairs. Up to three that make no four are added one by one.
+// The sums of all products of a bin's pairs. Up to three that are left over from the fours are added one
+// by one: through the arrays they took longer.
 fn bin_sums(pairs: &[f32]) -> BinSums
     requires { ⌜ 2 ≤ length (now pairs) ⌝ }
     ensures { λ r. ⌜ Summed (binPairs 1 (now (pairs .entry)) 0) r ⌝ }
@@ -195,7 +197,7 @@ fn block_room() -> [f32; 16512]
 }
 
 // Copies the pairs of two symbols, which begin at `at` and `next`, to the pairs t and t + 1 of the
-// slots. Two pairs at a time are one store.
+// slots. They come to lie side by side, so that the compiler makes one store of two.
 fn spread_two(spectra: &[f32], at: usize, next: usize, bins: BinBlock, t: usize, block: &mut [f32])
     requires { ⌜ Spreadable at next (bins .width) (bins .slot) t (length (now spectra)) (length (now block)) ⌝ }
     ensures { λ _. ⌜ Spread (now (spectra .entry)) at next (bins .width) (bins .slot) t (now (block .entry)) (now (block .exit)) ⌝ }
@@ -212,8 +214,8 @@ fn spread_two(spectra: &[f32], at: usize, next: usize, bins: BinBlock, t: usize,
     }
 }
 
-// Copies the pairs of some bins of spectra of `len` pairs. Eight pairs lie in a line of the cache: so
-// each line of the spectra is fetched once for its bins, and not again for each of them.
+// Copies the pairs of some bins of spectra of `len` pairs. Eight pairs lie in a line of the cache: so a
+// line of the spectra is fetched once or, where two copies share it, twice, and not for each of its bins.
 fn gather(spectra: &[f32], len: usize, bins: BinBlock, block: &mut [f32])
     requires { ⌜ Gatherable len bins (length (now spectra)) (length (now block)) ⌝ }
     ensures { λ _. ⌜ Gathered (now (spectra .entry)) len bins (bins .count) (now (block .exit)) ⌝ }
@@ -231,7 +233,7 @@ fn gather(spectra: &[f32], len: usize, bins: BinBlock, block: &mut [f32])
     }
 }
 
-// The ratio of bin i of the copy.
+// The ratio of bin i of the copy. Nothing is refused, since a slot has 1 to 1,024 pairs of its bin.
 fn ratio_in(block: &[f32], bins: BinBlock, i: usize) -> f32
     requires { ⌜ InBlock bins i (length (now block)) ⌝ }
     ensures { λ r. ⌜ r ≡ ratioOf (column (now (block .entry)) 1 (i * bins .slot) (bins .count)) ⌝ }
@@ -260,7 +262,7 @@ fn write_block(block: &[f32], bins: BinBlock, out: &mut [f32])
 
 // The ratios of an accepted call. A slot has a line of the cache more than the bin's pairs, since slots
 // that lie a power of two apart share too few of the cache's places; two lines of bins are copied at a
-// time where there is room.
+// time where the block's 8,256 pairs have room.
 fn write_ratios(spectra: &[f32], len: usize, out: &mut [f32])
     requires { ⌜ Accepted len (length (now spectra)) (length (now out)) 0 ⌝ }
     ensures { λ _. ⌜ now (out .exit) ≡ binRatios len (now (spectra .entry)) ⌝ }

@@ -1,5 +1,5 @@
 -- The kinds read 9, 18 and 36 bins of every segment in modes 1, 2 and 3: antt computes it over all segments. A score of exactly 0.5 is coherent,
--- and so is a NaN. Each ratio that an accepted call leaves is its bin's own.
+-- and so is a NaN. Each ratio that an accepted call leaves is what `bin_ratio` answers for its bin (`kinds-each`).
 -- Assumes nothing.
 use Prim.Native.Nat.{ℕ, _<_}
 use mathlib.Core.Path.{_≡_, refl}

@@ -5,7 +5,7 @@
 -- This is of sums. Scores are sums divided, and may tie where sums do not: in mode 1 the sums 14 + 2^-20 and 14 + 2^-19 both give the score
 -- 0x3f04bda2, and the greater sum wins.
 -- The pattern has 27, 53 and 105 bins in modes 1, 2 and 3. An answer has the number that its refusals decide, and an accepted
--- call tells the winner and leaves the ratios, each of which is its bin's own (`shift-each`).
+-- call tells the winner and leaves the ratios, each of which is what `bin_ratio` answers for its bin (`shift-each`).
 -- Assumes nothing.
 use Prim.Native.Nat.{ℕ, _+_, _*_, _<_}
 use mathlib.Core.Bool.{true, false}

@@ -259,6 +259,17 @@ impl RatiosLeft {
     }
 }
 
+/// From so many spectra on, the port copies fewer than sixteen bins at a time.
+const NARROWER: usize = 509;
+
+/// How many spectra: mostly few, in mode 1 seldom any number, or one next to where the copy narrows.
+fn spectra_count(rng: &mut Rng, mode: Mode) -> usize {
+    if mode == Mode::M1 && rng.once_in(256) {
+        return NARROWER - 2 + rng.below(4);
+    }
+    random_count(rng, mode).max(1)
+}
+
 impl Claim for RatiosLeft {
     const TITLE: &'static str = "bin ratio, of every bin";
     const STREAM: u64 = 605;
@@ -273,7 +284,7 @@ impl Claim for RatiosLeft {
         } else {
             (Self::Kinds(KindsArguments { mode }), Places::Carriers)
         };
-        let (count, choice) = (random_count(rng, mode).max(1), rng.choice());
+        let (count, choice) = (spectra_count(rng, mode), rng.choice());
         Changed {
             floats: Floats(captures::spectra(rng, mode, choice, places, count)),
             arguments,
