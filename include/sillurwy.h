@@ -176,9 +176,9 @@ uint8_t sillurwy_detect_mode(const float *samples, size_t samples_len, const uin
  * sillurwy_integer_cfo and sillurwy_detect_kinds leave is, bit for bit, what this gives for that
  * bin's pairs.
  *   pairs  the bin's pairs in symbol order, 1 to SILLURWY_MOST_SPECTRA of them, 2 floats each
- *   ratio  the answer, not below zero; it may be a little above 1 by rounding, and where a sum
- *          overflows a NaN, infinite or +0.0. It is +0.0 where the divisor is not above zero, and so
- *          for a single pair
+ *   ratio  the answer, not below zero; it may be above 1 by rounding, and where a sum or the norm
+ *          overflows it may be a NaN, infinite or +0.0. It is +0.0 where the divisor is not above
+ *          zero, and so for a single pair
  * Refused: 5 an odd length, or too many pairs; 6 none. */
 uint8_t sillurwy_bin_ratio(const float *pairs, size_t pairs_len, float *ratio);
 

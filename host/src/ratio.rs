@@ -8,8 +8,8 @@ use crate::refusal::{accepted, Refusal};
 ///
 /// It has no unit, and the pairs may be in any. Over many symbols a carrier that repeats itself, or
 /// changes its sign alone, has about 1, and one that carries data about 0. It is not below zero; it may
-/// be a little above 1 by rounding, and where a sum overflows a NaN, infinite or `0.0`. It is `0.0`
-/// where the divisor is not above zero, and so for a single pair.
+/// be above 1 by rounding, and where a sum or the norm overflows it may be a NaN, infinite or `0.0`. It
+/// is `0.0` where the divisor is not above zero, and so for a single pair.
 ///
 /// Refused: [`BadFloats`](Refusal::BadFloats) for an odd number of floats, or more pairs than
 /// [`MOST_SPECTRA`](crate::MOST_SPECTRA), since a spectrum has one pair of the bin;
