@@ -3,8 +3,9 @@
 -- Assumes nothing.
 use Prim.Native.Nat.{ℕ, zero, suc, _+_, _*_, _≤_, _<_, suc-le-suc}
 use mathlib.Core.Bool.{Bool, true, false, cond}
-use mathlib.Core.List.{List, [], _∷_, _++_, map, map-append, append-assoc, append-nil, Perm, Perm-prop, Perm·refl, Perm·nil, Perm·cons, Perm·trans}
-use mathlib.Core.List.{Perm·append-left, Perm·append-right, perm-middle, perm-append-comm, List·Permᴰ, List·Permᴰ·nil, List·Permᴰ·cons, List·Permᴰ·swap, List·Permᴰ·trans}
+use mathlib.Core.List.{List, [], _∷_, _++_, map, map-append, append-assoc, append-nil}
+use mathlib.Core.List.{Perm, Perm-prop, Perm·refl, Perm·nil, Perm·cons, Perm·trans, Perm·append-left, Perm·append-right, perm-middle, perm-append-comm}
+use mathlib.Core.List.{List·Permᴰ, List·Permᴰ·nil, List·Permᴰ·cons, List·Permᴰ·swap, List·Permᴰ·trans}
 use mathlib.Core.Logic.{∥∥₁-elim}
 use mathlib.Core.Path.{_≡_, refl, sym, ap, _∙_}
 use native.Mathlib.Omega.{arith}
