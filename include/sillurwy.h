@@ -51,7 +51,8 @@ enum sillurwy_segment_kind {
     SILLURWY_DIFFERENTIAL = 1
 };
 
-/* The role of a carrier in a symbol. */
+/* The role of a carrier in a symbol. Its name is written with `enum` in C++ too, since a function
+ * has the same name. */
 enum sillurwy_carrier_role {
     SILLURWY_DATA = 0,
     SILLURWY_SP = 1,   /* scattered pilot */
@@ -120,6 +121,14 @@ uint8_t sillurwy_carrier_bin(uint8_t mode, size_t k, size_t *bin);
  * Refused: 1 bad mode; 2 bad kinds; 3 bad phase; 7 out of another length. */
 uint8_t sillurwy_role_map(uint8_t mode, uint8_t phase, const uint8_t *kinds, size_t kinds_len,
                           uint8_t *out, size_t out_len);
+
+/* The role of carrier k alone, from the tables of its own segment: no map is built.
+ *   phase, kinds  as for the role map
+ *   k             0, the lowest frequency, to SILLURWY_TOTAL_CARRIERS(mode) - 1, the edge
+ *   role          the answer, enum sillurwy_carrier_role in a byte: byte k of the role map
+ * Refused: 1 bad mode; 2 bad kinds; 3 bad phase; 4 k at or above k_total. */
+uint8_t sillurwy_carrier_role(uint8_t mode, uint8_t phase, const uint8_t *kinds, size_t kinds_len,
+                              size_t k, uint8_t *role);
 
 /* The pilot sign of each carrier of the band: 0 for +4/3, 1 for -4/3.
  *   out  SILLURWY_TOTAL_CARRIERS(mode) bytes

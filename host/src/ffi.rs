@@ -14,6 +14,14 @@ mod c {
             out: *mut u8,
             out_len: usize,
         ) -> u8;
+        pub fn sillurwy_carrier_role(
+            mode: u8,
+            phase: u8,
+            kinds: *const u8,
+            kinds_len: usize,
+            k: usize,
+            role: *mut u8,
+        ) -> u8;
         pub fn sillurwy_sign_map(mode: u8, out: *mut u8, out_len: usize) -> u8;
         pub fn sillurwy_data_list(
             mode: u8,
@@ -146,6 +154,14 @@ pub fn role_map(mode: u8, phase: u8, kinds: &[u8], out: &mut [u8]) -> u8 {
             out.len(),
         )
     }
+}
+
+/// The role byte of one carrier of the band.
+#[inline]
+pub fn carrier_role(mode: u8, phase: u8, kinds: &[u8], k: usize, role: &mut u8) -> u8 {
+    // SAFETY: whole slices with their lengths, numbers, which live through the call; nobody else
+    // borrows what is written. The function keeps no pointer and asks for nothing more.
+    unsafe { c::sillurwy_carrier_role(mode, phase, kinds.as_ptr(), kinds.len(), k, role) }
 }
 
 /// The pilot sign of each carrier of the band.

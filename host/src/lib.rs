@@ -9,6 +9,7 @@
 //! | [`ofdm`] | [`carrier_bin`](ofdm::carrier_bin) |
 //! | [`prbs`] | [`sign_map`](prbs::sign_map) |
 //! | [`frame`] | [`role_map`](frame::role_map) |
+//! | [`carrier_role`] | [`carrier_role`](carrier_role::carrier_role) |
 //! | [`carrier_lists`] | [`data_list`](carrier_lists::data_list), [`continual_list`](carrier_lists::continual_list) |
 //! | [`guess`] | [`samples_needed`](guess::samples_needed), [`detect_mode`](guess::detect_mode) |
 //! | [`ratio`] | [`bin_ratio`](ratio::bin_ratio) |
@@ -44,6 +45,7 @@
 #![deny(unsafe_code)]
 
 pub mod carrier_lists;
+pub mod carrier_role;
 pub mod chanest;
 pub mod complex;
 #[allow(unsafe_code)]

@@ -4,15 +4,15 @@ use sillurwy::frame::CarrierRole;
 use sillurwy::params::{kinds_from_codes, GuardInterval, Mode, Phase, SegmentKind};
 use sillurwy::pilot_phase::PilotPhase;
 use sillurwy::{
-    carrier_lists, chanest, complex, frame, frame_start, guess, ieee, ofdm, pilot_phase, prbs,
-    ratio, segment_kinds, shift, tmcc, Refusal,
+    carrier_lists, carrier_role, chanest, complex, frame, frame_start, guess, ieee, ofdm,
+    pilot_phase, prbs, ratio, segment_kinds, shift, tmcc, Refusal,
 };
 use std::array::from_fn;
 use std::fs;
 use std::path::Path;
 
 /// The operations, by their numbers, which count from 1; how many things each is lent to be written.
-const OPERATIONS: [(&str, usize); 18] = [
+const OPERATIONS: [(&str, usize); 19] = [
     ("carrier_bin", 1),
     ("role_map", 1),
     ("sign_map", 1),
@@ -31,6 +31,7 @@ const OPERATIONS: [(&str, usize); 18] = [
     ("norm64", 1),
     ("frame_start", 3),
     ("bin_ratio", 1),
+    ("carrier_role", 1),
 ];
 
 /// What is not read yet of the stored answers.
@@ -309,6 +310,12 @@ fn call(name: &str, record: &Record) -> Result<Answer, Refusal> {
         "bin_ratio" => {
             let ratio = ratio::bin_ratio(floats);
             answer(ratio, [one(ratio.ok())])
+        }
+        "carrier_role" => {
+            let (mode, kinds, phase) = (mode()?, kinds()?, phase()?);
+            let k = ofdm::BandCarrier(record.numbers[2]);
+            let role = carrier_role::carrier_role(mode, phase, &kinds, k);
+            answer(role, [one(role.ok().map(CarrierRole::byte))])
         }
         name => panic!("{name} has no case"),
     })

@@ -132,14 +132,21 @@ static size_t a_length(struct bytes *in, size_t right)
     return byte < 244 ? 0 : below(in, 2 * right + 3);
 }
 
-/* A number that is mostly at most the bound, else next to it or of any size. */
+/* A number that is mostly at most the bound, else next to it, of any size, or at most the bound in
+ * its low 32 bits alone. */
 static size_t a_bounded(struct bytes *in, size_t bound)
 {
     uint8_t byte = a_byte(in);
     if (byte < 208) {
         return below(in, bound + 1);
     }
-    return byte < 240 ? bound + byte % 3 : (size_t)a_number(in, 8) >> (byte % 64);
+    if (byte < 240) {
+        return bound + byte % 3;
+    }
+    if (byte < 248) {
+        return (size_t)a_number(in, 8) >> 8 * (byte % 8);
+    }
+    return below(in, bound + 1) + ((size_t)1 << (32 + 4 * (byte % 8)));
 }
 
 /* ---- What is lent ---- */
@@ -372,6 +379,32 @@ static void role_map(struct bytes *in)
     uint8_t owed = bad_mode(mode) ? 1 : bad_kinds(kinds) ? 2 : phase > 3 ? 3 : len != right ? 7 : 0;
     if (accepted(code, owed)) {
         must(all_below_u8(out, len, 7), "out");
+    }
+}
+
+/* Byte k of the role map. */
+static uint8_t role_in_map(uint8_t mode, uint8_t phase, struct codes kinds, size_t k)
+{
+    static uint8_t map[SILLURWY_TOTAL_CARRIERS(3)];
+    sillurwy_role_map(mode, phase, kinds.at, kinds.len, map, SILLURWY_TOTAL_CARRIERS(mode));
+    return map[k];
+}
+
+static void carrier_role(struct bytes *in)
+{
+    uint8_t mode = a_mode(in);
+    size_t k_total = bad_mode(mode) ? 1405 : SILLURWY_TOTAL_CARRIERS(mode);
+    uint8_t phase = a_phase(in);
+    struct codes kinds = some_kinds(in);
+    size_t k = a_bounded(in, k_total - 1);
+    uint8_t *role = a_buffer(in, "role", 1, 1);
+    lent_ready();
+    uint8_t code = sillurwy_carrier_role(mode, phase, kinds.at, kinds.len, k, role);
+    uint8_t owed = bad_mode(mode) ? 1 : bad_kinds(kinds) ? 2 : phase > 3 ? 3 : k >= k_total ? 4 : 0;
+    if (accepted(code, owed)) {
+        /* The edge is the band's last carrier, and no other. */
+        bool in_range = *role < 7 && (*role == SILLURWY_EDGE) == (k == k_total - 1);
+        must(in_range && *role == role_in_map(mode, phase, kinds, k), "role");
     }
 }
 
@@ -876,6 +909,7 @@ struct target {
 static const struct target targets[] = {
     {"carrier_bin", carrier_bin, 50},
     {"role_map", role_map, 20},
+    {"carrier_role", carrier_role, 50},
     {"sign_map", sign_map, 20},
     {"data_list", data_list, 10},
     {"continual_list", continual_list, 20},

@@ -35,7 +35,8 @@
     LINE(NORM32, "norm32")                   \
     LINE(NORM64, "norm64")                   \
     LINE(FRAME_START, "frame_start")         \
-    LINE(BIN_RATIO, "bin_ratio")
+    LINE(BIN_RATIO, "bin_ratio")             \
+    LINE(CARRIER_ROLE, "carrier_role")
 
 #define NUMBER(number, name) number,
 #define NAME(number, name) name,
@@ -282,6 +283,8 @@ static uint8_t called(size_t function, struct call *c)
     case FRAME_START:
         return sillurwy_frame_start(in, in_len, u8s(c, 0, 1), sizes(c, 1, 1), u8s(c, 2, 1));
     case BIN_RATIO: return sillurwy_bin_ratio(in, in_len, f32s(c, 0, 1));
+    case CARRIER_ROLE:
+        return sillurwy_carrier_role(n8(c, 0), n8(c, 1), list, len, n[2], u8s(c, 0, 1));
     default: fail("has a function that is not known", file_name);
     }
     return 0;

@@ -13,6 +13,7 @@ use lib.ListN.{length, length-append}
 use Rattle.lists.specs.Lists.{upTo, joined, chosen}
 use Rattle.lists.specs.Tests.{memb, allBelow, allBelow-at, countBelow}
 use Rattle.lists.specs.Select.{length-upTo, chosen-append, length-chosen, count-same, AscendingFrom}
+use Rattle.lists.specs.Search.{member-low}
 use Rattle.params.specs.declared.Mode.{Mode}
 use Rattle.params.specs.declared.Mode.the-variants.{M1, M2, M3}
 use Rattle.params.specs.declared.SegmentKind.{SegmentKind}
@@ -183,15 +184,6 @@ pilots-leave mode kinds phase =
     let roles = joined (segmentRoles mode phase) (wide kinds) in
     rw (chosen-append isPilot 0 roles (roleByte EdgeCp ∷ []))
     (leaves-append (3 * phase) (chosen isPilot 0 roles) [] (segments-leave mode phase 0 (wide kinds) refl) tt)
-
--- a member is not below where the entries start
-member-low : (low a : ℕ) (ks : List ℕ) → AscendingFrom low ks → memb a ks ≡ true → low ≤ a
-member-low low a [] h m = absurd (let z : _≡_ {A = ℕ} 0 1 = cc in omega arith)
-member-low low a (x ∷ ks) h m = by (eqb x a) refl m (member-low (suc x) a ks (h .1))
-  where
-    by : (b : Bool) → eqb x a ≡ b → (b || memb a ks) ≡ true → (memb a ks ≡ true → x < a) → low ≤ a
-    by true e m later = omega (arith, h .0, eqb-true)
-    by false e m later = omega (arith, h .0, later m)
 
 -- in a list that ascends and whose entries all leave r, none lies between a and a + 12, so a + 12 stands right behind a
 pub apart-member : (r low a : ℕ) (ks : List ℕ) → AscendingFrom low ks → Leaves r ks → memb a ks ≡ true → memb (a + 12) ks ≡ true

@@ -22,7 +22,7 @@ use Rattle.params.specs.Laws.{sized}
 use Rattle.frame.specs.declared.AcKind.the-variants.{Ac1, Ac2}
 use Rattle.frame.specs.declared.CarrierRole.{CarrierRole}
 use Rattle.frame.specs.declared.CarrierRole.the-variants.{Cp, Tmcc, Ac, EdgeCp}
-use Rattle.frame.specs.Roles.{OfdmSegment, roleByte, bandRoles, wide, isTmcc, isAc, isCpByte}
+use Rattle.frame.specs.Roles.{OfdmSegment, roleByte, bandRoles, edgeOf, roleAt, wide, isTmcc, isAc, isCpByte}
 use Rattle.carrier_lists.specs.declared.ContinualList.{ContinualList}
 use Rattle.carrier_lists.specs.declared.ContinualList.the-variants.{Refused}
 use Rattle.carrier_lists.specs.CarrierLists.{continualList}
@@ -34,7 +34,7 @@ use Rattle.carrier_lists.specs.Operations.{
   ContinualListed,
 }
 use Rattle.frame.specs.Rules.{placeHas, bandSize, hasRole, carriersOf}
-use Rattle.frame.specs.OneRole.{every-role, edgeOf, roleAt, band-length, chosen-carriers, has-one, role-carriers, wide-rows, wide-size}
+use Rattle.frame.specs.OneRole.{every-role, band-length, chosen-carriers, has-one, role-carriers, wide-rows, wide-size}
 
 -- the carriers of role AC1 or AC2, ascending
 abbrev pub acCarriers : Mode → ℕ → List OfdmSegment → List ℕ

@@ -11,7 +11,7 @@ use borrow.Author.Tests.{eqb-true, ltb-true, eq-eqb, ne-eqb, lt-ltb, le-ltb}
 use lib.Dec.{eqb, ltb, lit<}
 use lib.ListN.{getD, length}
 use lib.Ieee.{Float}
-use Rattle.lists.specs.Tests.{agree, both-left, both-right}
+use Rattle.lists.specs.Tests.{both-left, both-right}
 use Rattle.lists.specs.Refusals.{passed}
 use Rattle.lists.specs.Select.{length-upTo}
 use Rattle.params.specs.declared.Mode.{Mode}
@@ -28,8 +28,7 @@ use Rattle.spectra.specs.Flat.{length-flat, pair-flat, flat-own}
 use Rattle.frame.specs.declared.CarrierRole.the-variants.{Sp, Cp, EdgeCp}
 use Rattle.frame.specs.Operations.{areKinds}
 use Rattle.frame.specs.Roles.{OfdmSegment, roleByte, placeRole, bandRoles, wideSegment, wide}
-use Rattle.frame.specs.Rules.{segmentIn}
-use Rattle.frame.specs.OneRole.{map-says}
+use Rattle.frame.specs.OneRole.{segment-in, map-says}
 use Rattle.pilot_times.specs.declared.Current.{Current}
 use Rattle.pilot_times.specs.declared.Window.{Window}
 use Rattle.pilot_times.specs.declared.Offsets.{Offsets}
@@ -161,9 +160,6 @@ same-written m kinds xs current old other i h l a s = by (isScattered m kinds i)
 -- where spectrum 0 has phase p, and the current one is handed over with (p + index) mod 4, spectrum s has (p + s) mod 4
 pub handed-over : (p index w s : ℕ) → phaseIn (record { phase = (p + index) % 4; index = index; w = w }) s ≡ (p + s) % 4
 handed-over p index w s = omega arith
-
-segment-in : (kinds : List ℕ) (place : ℕ) → place < 13 → segmentIn (wide kinds) place ≡ wideSegment kinds (segmentAt place)
-segment-in kinds place h = agree (segmentIn (wide kinds)) (λ p. wideSegment kinds (segmentAt p)) 13 refl place h
 
 sp-role : (m : Mode) (s : OfdmSegment) (phase p : ℕ) → s .kind ≡ Coherent → p % 12 ≡ 3 * phase → placeRole m s phase p ≡ Sp
 unfolding placeRole

@@ -7,6 +7,7 @@ use mathlib.Core.Path.{_≡_, refl, sym, _∙_}
 use native.Mathlib.Omega.{arith}
 use borrow.Author.Tests.{eq-eqb, ne-eqb, lt-ltb, le-ltb}
 use lib.ListN.{length}
+use Rattle.lists.specs.Refusals.{unless}
 use Rattle.params.specs.declared.Mode.{Mode}
 use Rattle.params.specs.declared.ModeNumber.{ModeNumber}
 use Rattle.params.specs.declared.ModeNumber.the-variants.{Known, Unknown}
@@ -23,19 +24,25 @@ module _ (number : ModeNumber) (kinds : List ℕ) (code : ℕ) (m : Mode) (read 
   unfolding layoutCode
   kinds-good z = kinds-tested (areKinds kinds) (sym (a .refusal ∙ rw (a .known z)) ∙ z)
 
+  -- a layout that was refused: its mode is bad, or its mode is good and its kinds are not
+  pub by-refusal : (P : ModeNumber → ℕ → Type 0) → P Unknown 1 → ((k : Mode) → areKinds kinds ≡ false → P (Known k) 2) → (code ≡ 0 → ⊥) → P number code
+  unfolding layoutCode
+  by-refusal P bad-mode bad-kinds h = by number (a .refusal)
+    where
+      tested : (k : Mode) (good : Bool) → areKinds kinds ≡ good → code ≡ unless good 2 0 → P (Known k) code
+      tested k true g e = absurd (h e)
+      tested k false g e = rw e (bad-kinds k g)
+
+      by : (n : ModeNumber) → code ≡ layoutCode n kinds → P n code
+      by Unknown e = rw e bad-mode
+      by (Known k) e = tested k (areKinds kinds) refl e
+
   module _ (size : Mode → ℕ) (list : Mode → List ℕ) (phase : ℕ) (out : List ℕ) where
     pub refused-layout : (code ≡ 0 → ⊥) → SymbolAnswer size list number phase kinds out code out
-    unfolding layoutCode symbolCode symbolLeaves
-    refused-layout h = by number (a .refusal)
-      where
-        tested : (k : Mode) (good : Bool) → areKinds kinds ≡ good → code ≡ layoutCode (Known k) kinds
-            → SymbolAnswer size list (Known k) phase kinds out code out
-        tested k true g e = absurd (h (rw g at e))
-        tested k false g e = record { code = rw g (rw g at e); leaves = rw g }
-
-        by : (n : ModeNumber) → code ≡ layoutCode n kinds → SymbolAnswer size list n phase kinds out code out
-        by Unknown e = record { code = e; leaves = refl }
-        by (Known k) e = tested k (areKinds kinds) refl e
+    unfolding symbolCode symbolLeaves
+    refused-layout =
+        by-refusal (λ n c. SymbolAnswer size list n phase kinds out c out) (record { code = refl; leaves = refl })
+        (λ k g. record { code = rw g; leaves = rw g })
 
     module _ (z : code ≡ 0) where
       pub refused-phase : 3 < phase → SymbolAnswer size list number phase kinds out 3 out

@@ -1,19 +1,19 @@
 -- Each carrier of a band has exactly one role, the one that the role map says: the rules of no two roles meet, and the carriers of the
 -- seven roles together are the band's carriers.
 -- Assumes nothing.
-use Prim.Native.Nat.{ℕ, zero, suc, _+_, _*_, _/_, _%_, _≤_, _<_}
+use Prim.Native.Nat.{ℕ, zero, suc, _+_, _≤_, _<_}
 use mathlib.Core.Bool.{Bool, true, false, cond, not, _||_}
 use mathlib.Core.List.{List, [], _∷_, map, Perm}
 use mathlib.Core.Path.{_≡_, refl, sym, ap, subst, _∙_}
 use native.Mathlib.Omega.{arith}
-use native.Mathlib.Nat.{le-of-suc-le-suc, not-suc-le-zero, div-add-mod', div-lt-iff-lt-mul, mod-lt}
+use native.Mathlib.Nat.{le-of-suc-le-suc, not-suc-le-zero}
 use native.Mathlib.Decide.{decLt}
 use borrow.Author.Tests.{eqb-true, eqb-false, ltb-true, le-leb, lt-leb, eq-eqb, ne-eqb}
 use lib.Dec.{eqb, leb, ltb, lit<}
 use lib.ListN.{length, getD, length-append, List·getD-append}
 use lib.Seq.{getD-at}
 use Rattle.lists.specs.Lists.{range, joined, select, chosen}
-use Rattle.lists.specs.Tests.{memb, allIn, allBelow, allBelow-at, both-left, both-right}
+use Rattle.lists.specs.Tests.{memb, allIn, allBelow, allBelow-at, agree, both-left, both-right}
 use Rattle.lists.specs.Select.{length-upTo, getD-upTo, length-joined, getD-joined, chosen-select, select-same, passes, passes-same, sorted-perm}
 use Rattle.lists.specs.Truth.{same, same-true, always5, always5-at}
 use Rattle.params.specs.declared.Mode.{Mode}
@@ -22,12 +22,14 @@ use Rattle.params.specs.Params.{carriersPerSegment, totalCarriers}
 use Rattle.params.specs.Laws.{sized}
 use Rattle.tables.specs.Places.{tmccOf, ac1Of, ac2Of, isSp, isCp, claims, one}
 use Rattle.tables.specs.Rule.{apart}
-use Rattle.ofdm.specs.Band.{order}
+use Rattle.ofdm.specs.Band.{order, segmentAt, bandPlace, segmentPlace}
+use Rattle.ofdm.specs.Laws.{in-band, in-segment, carrier-of-place}
 use Rattle.frame.specs.declared.AcKind.the-variants.{Ac1, Ac2}
 use Rattle.frame.specs.declared.CarrierRole.{CarrierRole}
 use Rattle.frame.specs.declared.CarrierRole.the-variants.{Data, Sp, Cp, Tmcc, Ac, EdgeCp}
-use Rattle.frame.specs.Roles.{OfdmSegment, roleByte, firstClaim, placeRole, segmentRoles, bandRoles, wideSegment, wide, between}
-use Rattle.frame.specs.Rules.{placeHas, bandSize, segmentIn, hasRole, carriersOf, everyRole}
+use Rattle.frame.specs.Roles.{OfdmSegment, roleByte, firstClaim, placeRole, segmentRoles, bandRoles, between}
+use Rattle.frame.specs.Roles.{segmentIn, edgeOf, roleAt, wideSegment, wide}
+use Rattle.frame.specs.Rules.{placeHas, bandSize, hasRole, carriersOf, everyRole}
 
 -- every segment uses a row of the tables
 abbrev pub rowsBelow : List OfdmSegment → Type 0
@@ -52,6 +54,10 @@ wide-rows kinds = rows-of kinds order refl
 
 pub wide-size : (mode : Mode) (kinds : List ℕ) → bandSize mode (wide kinds) ≡ totalCarriers mode
 wide-size mode kinds = sym (sized mode .band)
+
+-- the segment at a place of it is the one that the standard has there
+pub segment-in : (kinds : List ℕ) (place : ℕ) → place < 13 → segmentIn (wide kinds) place ≡ wideSegment kinds (segmentAt place)
+segment-in kinds place h = agree (segmentIn (wide kinds)) (λ p. wideSegment kinds (segmentAt p)) 13 refl place h
 
 -- a role's byte is its place in the list of all roles
 listed : (r : CarrierRole) → (roleByte r < 7) × (getD everyRole (roleByte r) Data ≡ r)
@@ -113,16 +119,6 @@ place-has mode s phase p r in-table in-cycle h =
 
 -- what the carrier k of a band is
 
--- the edge lies above the last segment
-abbrev pub edgeOf : Mode → List OfdmSegment → ℕ
-edgeOf mode segments = length segments * carriersPerSegment mode
-
--- the role of a carrier, as the map lists it
-abbrev pub roleAt : Mode → ℕ → List OfdmSegment → ℕ → CarrierRole
-roleAt mode phase segments k =
-    cond (eqb k (edgeOf mode segments)) EdgeCp
-    (placeRole mode (segmentIn segments (k / carriersPerSegment mode)) phase (k % carriersPerSegment mode))
-
 pub segment-length : (mode : Mode) (phase : ℕ) (s : OfdmSegment) → length (segmentRoles mode phase s) ≡ carriersPerSegment mode
 unfolding segmentRoles
 segment-length mode phase s = length-upTo _ (carriersPerSegment mode)
@@ -164,15 +160,6 @@ module _ (mode : Mode) (phase : ℕ) (segments : List OfdmSegment) where
   below-edge : (k : ℕ) → eqb k (edgeOf mode segments) ≡ false → k < bandSize mode segments → k < edgeOf mode segments
   below-edge k e h = omega (arith, eqb-false k (edgeOf mode segments) e)
 
-  -- a carrier below the edge lies in a segment, at a place of it
-  segment-known : (k : ℕ) → k < edgeOf mode segments → k / carriersPerSegment mode < length segments
-  segment-known k h =
-      let c : 0 < carriersPerSegment mode = omega (arith, sized mode .carriers-low) in
-      div-lt-iff-lt-mul {k = carriersPerSegment mode} {x = k} {y = length segments} c .1 h
-
-  place-known : (k : ℕ) → k % carriersPerSegment mode < carriersPerSegment mode
-  place-known k = mod-lt k (omega (arith, sized mode .carriers-low))
-
   map-at : (k : ℕ) (b : Bool) → eqb k (edgeOf mode segments) ≡ b → k < bandSize mode segments
       → getD (bandRoles mode phase segments) k 0 ≡ roleByte (roleAt mode phase segments k)
   unfolding bandRoles
@@ -183,10 +170,10 @@ module _ (mode : Mode) (phase : ℕ) (segments : List OfdmSegment) where
       let below : k < edgeOf mode segments = below-edge k e h in
       rw e
       (List·getD-append (joined (segmentRoles mode phase) segments) (roleByte EdgeCp ∷ []) 0 k (rw parts-length below)
-      ∙ (ap (λ (n : ℕ). getD (joined (segmentRoles mode phase) segments) n 0) (sym (div-add-mod' k (carriersPerSegment mode)))
+      ∙ (ap (λ (n : ℕ). getD (joined (segmentRoles mode phase) segments) n 0) (sym (carrier-of-place mode k))
       ∙ (getD-joined (segmentRoles mode phase) (carriersPerSegment mode) (record { row = 0; kind = Coherent }) segments each-length
-      (k / carriersPerSegment mode) (k % carriersPerSegment mode) 0 (segment-known k below) (place-known k)
-      ∙ segment-at mode phase (segmentIn segments (k / carriersPerSegment mode)) (k % carriersPerSegment mode) (place-known k))))
+      (bandPlace mode k) (segmentPlace mode k) 0 (in-band mode (length segments) k below) (in-segment mode k)
+      ∙ segment-at mode phase (segmentIn segments (bandPlace mode k)) (segmentPlace mode k) (in-segment mode k))))
 
   -- the map's byte is that of the role of the carrier
   pub map-says : (k : ℕ) → k < bandSize mode segments → getD (bandRoles mode phase segments) k 0 ≡ roleByte (roleAt mode phase segments k)
@@ -208,8 +195,8 @@ module _ (mode : Mode) (phase : ℕ) (segments : List OfdmSegment) where
     has-at k false e h r =
         let below : k < edgeOf mode segments = below-edge k e h in
         rw e
-        (place-has mode (segmentIn segments (k / carriersPerSegment mode)) phase (k % carriersPerSegment mode) r
-        (row-below segments rows (k / carriersPerSegment mode) (segment-known k below)) in-cycle (place-known k))
+        (place-has mode (segmentIn segments (bandPlace mode k)) phase (segmentPlace mode k) r
+        (row-below segments rows (bandPlace mode k) (in-band mode (length segments) k below)) in-cycle (in-segment mode k))
 
     -- a carrier has its role and no other
     pub has-one : (k : ℕ) → k < bandSize mode segments → (r : CarrierRole)

@@ -38,10 +38,14 @@ unfoldable pub layoutKinds : ModeNumber → List ℕ → List ℕ
 layoutKinds Unknown kinds = replicate 13 0
 layoutKinds (Known m) kinds = heldKinds kinds
 
--- an operation on a mode, a phase and kinds: 1; 2; 3; 7 unless the output has as many entries as the mode asks
+-- an operation on a mode, a phase and kinds: 1; 2; 3; and then what its last test says in the mode
+abbrev pub symbolTests : (Mode → ℕ) → ModeNumber → ℕ → List ℕ → ℕ
+symbolTests last Unknown phase kinds = 1
+symbolTests last (Known m) phase kinds = unless (areKinds kinds) 2 (unless (ltb phase 4) 3 (last m))
+
+-- where it has an output: 7 unless that has as many entries as the mode asks
 unfoldable pub symbolCode : (Mode → ℕ) → ModeNumber → ℕ → List ℕ → ℕ → ℕ
-symbolCode size Unknown phase kinds n = 1
-symbolCode size (Known m) phase kinds n = unless (areKinds kinds) 2 (unless (ltb phase 4) 3 (unless (eqb n (size m)) 7 0))
+symbolCode size mode phase kinds n = symbolTests (λ m. unless (eqb n (size m)) 7 0) mode phase kinds
 
 -- its output: the list of the mode, or as it was where the call is refused
 unfoldable pub symbolLeaves : (Mode → ℕ) → (Mode → List ℕ) → ModeNumber → ℕ → List ℕ → List ℕ → List ℕ

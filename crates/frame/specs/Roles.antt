@@ -3,15 +3,16 @@
 use Prim.Native.Nat.{ℕ}
 use mathlib.Core.Bool.{Bool, cond, _&&_}
 use mathlib.Core.List.{List, [], _∷_, _++_, map}
-use lib.Dec.{leb}
-use lib.ListN.{getD}
+use lib.Dec.{eqb, leb}
+use lib.ListN.{length, getD}
 use Rattle.lists.specs.Lists.{upTo, joined}
 use Rattle.lists.specs.Tests.{memb}
 use Rattle.params.specs.declared.Mode.{Mode}
 use Rattle.params.specs.declared.SegmentKind.{SegmentKind}
+use Rattle.params.specs.declared.SegmentKind.the-variants.{Coherent}
 use Rattle.params.specs.Params.{carriersPerSegment, kindFrom}
 use Rattle.tables.specs.Places.{tmccOf, ac1Of, ac2Of, isSp, isCp}
-use Rattle.ofdm.specs.Band.{order}
+use Rattle.ofdm.specs.Band.{order, firstCarrier, bandPlace, segmentPlace}
 use Rattle.frame.specs.declared.AcKind.the-variants.{Ac1, Ac2}
 use Rattle.frame.specs.declared.CarrierRole.{CarrierRole}
 use Rattle.frame.specs.declared.CarrierRole.the-variants.{Data, Sp, Cp, Tmcc, Ac, EdgeCp}
@@ -51,6 +52,17 @@ segmentRoles mode phase s = upTo (λ p. roleByte (placeRole mode s phase p)) (ca
 -- the role bytes of a band, its segments by place, lowest first, and then the edge
 unfoldable pub bandRoles : Mode → ℕ → List OfdmSegment → List ℕ
 bandRoles mode phase segments = joined (segmentRoles mode phase) segments ++ (roleByte EdgeCp ∷ [])
+
+-- one carrier of a band: the segment at a place, the edge above the last segment, and the role of carrier k
+abbrev pub segmentIn : List OfdmSegment → ℕ → OfdmSegment
+segmentIn segments place = getD segments place (record { row = 0; kind = Coherent })
+
+abbrev pub edgeOf : Mode → List OfdmSegment → ℕ
+edgeOf mode segments = firstCarrier mode (length segments)
+
+abbrev pub roleAt : Mode → ℕ → List OfdmSegment → ℕ → CarrierRole
+roleAt mode phase segments k =
+    cond (eqb k (edgeOf mode segments)) EdgeCp (placeRole mode (segmentIn segments (bandPlace mode k)) phase (segmentPlace mode k))
 
 -- segment seg of the wide band, whose kinds are given in segment-number order
 abbrev pub wideSegment : List ℕ → ℕ → OfdmSegment

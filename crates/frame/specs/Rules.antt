@@ -1,21 +1,19 @@
 -- Each role's own rule, which looks at no other role but for data, and the carriers of a band that have a role. `OneRole` proves that the
 -- rules never meet and leave no carrier out.
 -- Definitions only.
-use Prim.Native.Nat.{ℕ, _+_, _*_, _/_, _%_}
+use Prim.Native.Nat.{ℕ, _+_}
 use mathlib.Core.Bool.{Bool, false, cond, not, _||_}
 use mathlib.Core.List.{List, [], _∷_}
 use lib.Dec.{eqb}
-use lib.ListN.{length, getD}
 use Rattle.lists.specs.Lists.{range, select}
 use Rattle.lists.specs.Tests.{memb}
 use Rattle.params.specs.declared.Mode.{Mode}
-use Rattle.params.specs.declared.SegmentKind.the-variants.{Coherent}
-use Rattle.params.specs.Params.{carriersPerSegment}
 use Rattle.tables.specs.Places.{tmccOf, ac1Of, ac2Of, isSp, isCp}
+use Rattle.ofdm.specs.Band.{bandPlace, segmentPlace}
 use Rattle.frame.specs.declared.AcKind.the-variants.{Ac1, Ac2}
 use Rattle.frame.specs.declared.CarrierRole.{CarrierRole}
 use Rattle.frame.specs.declared.CarrierRole.the-variants.{Data, Sp, Cp, Tmcc, Ac, EdgeCp}
-use Rattle.frame.specs.Roles.{OfdmSegment, roleByte}
+use Rattle.frame.specs.Roles.{OfdmSegment, roleByte, segmentIn, edgeOf}
 
 -- whether place p of a segment has a role; data is what no other rule claims
 unfoldable pub placeHas : Mode → OfdmSegment → ℕ → ℕ → CarrierRole → Bool
@@ -31,17 +29,13 @@ placeHas mode s phase p EdgeCp = false
 
 -- the carriers of a band of segments, its edge included
 abbrev pub bandSize : Mode → List OfdmSegment → ℕ
-bandSize mode segments = length segments * carriersPerSegment mode + 1
+bandSize mode segments = edgeOf mode segments + 1
 
--- the segment at a place of the band
-abbrev pub segmentIn : List OfdmSegment → ℕ → OfdmSegment
-segmentIn segments place = getD segments place (record { row = 0; kind = Coherent })
-
--- whether carrier k of a band has a role: the edge lies above the last segment
+-- whether carrier k of a band has a role
 unfoldable pub hasRole : Mode → ℕ → List OfdmSegment → ℕ → CarrierRole → Bool
 hasRole mode phase segments k r =
-    cond (eqb k (length segments * carriersPerSegment mode)) (eqb (roleByte r) (roleByte EdgeCp))
-    (placeHas mode (segmentIn segments (k / carriersPerSegment mode)) phase (k % carriersPerSegment mode) r)
+    cond (eqb k (edgeOf mode segments)) (eqb (roleByte r) (roleByte EdgeCp))
+    (placeHas mode (segmentIn segments (bandPlace mode k)) phase (segmentPlace mode k) r)
 
 -- the carriers of a band that have a role, ascending
 abbrev pub carriersOf : Mode → ℕ → List OfdmSegment → CarrierRole → List ℕ

@@ -11,6 +11,8 @@ use lib.Ieee.{Float}
 use Rattle.params.specs.declared.ModeNumber.{ModeNumber}
 use Rattle.ofdm.specs.declared.BinLookup.{BinLookup}
 use Rattle.ofdm.specs.Band.{binLookup, binNumber, binGiven}
+use Rattle.carrier_role.specs.declared.RoleAnswer.{RoleAnswer}
+use Rattle.carrier_role.specs.CarrierRole.{roleNumber, roleGiven}
 use Rattle.carrier_lists.specs.declared.ContinualList.{ContinualList}
 use Rattle.carrier_lists.specs.Operations.{ContinualListed, continualNumber, countGiven}
 use Rattle.samples_needed.specs.declared.SamplesNeeded.{SamplesNeeded}
@@ -28,7 +30,7 @@ use Rattle.ratio.specs.declared.BinRatio.{BinRatio}
 use Rattle.ratio.specs.Ratio.{binRatioNumber, binRatioGiven}
 use Rattle.shift.specs.declared.ShiftAnswer.{ShiftAnswer}
 use Rattle.shift.specs.Shift.{Shifted, shiftNumber, shiftGiven}
-use Rattle.host.specs.Host.{CarrierBin, ContinualCount, BinRatioLent, ShiftLent, SamplesLent, GuessLent, SoftLent, PhaseLent, StartLent}
+use Rattle.host.specs.Host.{CarrierBin, RoleLent, ContinualCount, BinRatioLent, ShiftLent, SamplesLent, GuessLent, SoftLent, PhaseLent, StartLent}
 
 -- ---- an answer that is a struct with its number
 pub kept : {A : Type 0} (r code : ℕ) (x y : A) → r ≡ code → (r ≡ 0 → ⊥) → y ≡ cond (eqb code 0) x y
@@ -40,6 +42,10 @@ taken r code x y z e n h = rw (sym e, eq-eqb r 0 n) h
 -- ---- an answer that is an enum: a is the case that was met
 pub bin-told : {mode : ModeNumber} {k : ℕ} {a : BinLookup} (lent : ℕ) → a ≡ binLookup mode k → CarrierBin mode k lent (binNumber a) (binGiven a lent)
 bin-told lent e = record { code = ap binNumber e; leaves = ap (λ z. binGiven z lent) e }
+
+-- the role's byte is a value of its own
+pub role-told : {a b : RoleAnswer} (lent : ℕ) {role : ℕ} → a ≡ b → role ≡ roleGiven a lent → RoleLent b lent (roleNumber a) role
+role-told lent e g = record { code = ap roleNumber e; leaves = g ∙ ap (λ z. roleGiven z lent) e }
 
 pub count-told : {mode : ModeNumber} {kinds out out' : List ℕ} {r a : ContinualList} (lent : ℕ) → ContinualListed mode kinds out r out' → r ≡ a
     → ContinualCount mode kinds out lent (continualNumber a) out' (countGiven a lent)

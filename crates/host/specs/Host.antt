@@ -11,6 +11,8 @@ use lib.ListN.{length}
 use lib.Ieee.{Float}
 use Rattle.params.specs.declared.ModeNumber.{ModeNumber}
 use Rattle.ofdm.specs.Band.{binLookup, binNumber, binGiven}
+use Rattle.carrier_role.specs.declared.RoleAnswer.{RoleAnswer}
+use Rattle.carrier_role.specs.CarrierRole.{roleNumber, roleGiven}
 use Rattle.carrier_lists.specs.Operations.{continualListAnswer, continualListLeaves, continualNumber, countGiven}
 use Rattle.samples_needed.specs.declared.SamplesNeeded.{SamplesNeeded}
 use Rattle.guess.specs.declared.GuardSearch.{GuardSearch}
@@ -34,6 +36,10 @@ ifAccepted code answer lent = cond (eqb code 0) answer lent
 pub record CarrierBin (mode : ModeNumber) (k lent r bin : ℕ) : Type 0 where
   pub code : r ≡ binNumber (binLookup mode k)
   pub leaves : bin ≡ binGiven (binLookup mode k) lent
+
+pub record RoleLent (a : RoleAnswer) (lent r role : ℕ) : Type 0 where
+  pub code : r ≡ roleNumber a
+  pub leaves : role ≡ roleGiven a lent
 
 pub record ContinualCount (mode : ModeNumber) (kinds out : List ℕ) (lent r : ℕ) (out' : List ℕ) (count : ℕ) : Type 0 where
   pub code : r ≡ continualNumber (continualListAnswer mode kinds (length out))

@@ -11,7 +11,8 @@ ghost use Rattle.prbs.specs.SignMap.{SignMap};
 ghost use Rattle.frame.specs.Operations.{RoleMap};
 ghost use Rattle.carrier_lists.specs.Operations.{DataList};
 ghost use Rattle.chanest.specs.Grid.{GridEstimated};
-ghost use Rattle.host.specs.Host.{CarrierBin, ContinualCount, BinRatioLent, ShiftLent, KindsLent};
+ghost use Rattle.carrier_role.specs.CarrierRole.{roleAnswer};
+ghost use Rattle.host.specs.Host.{CarrierBin, RoleLent, ContinualCount, BinRatioLent, ShiftLent, KindsLent};
 ghost use Rattle.host.specs.Host.{SamplesLent, GuessLent, SoftLent, PhaseLent, StartLent};
 ghost use lib.ListN.{length};
 ghost use Rattle.samples_needed.specs.Samples.{samplesAnswer};
@@ -19,6 +20,7 @@ ghost use Rattle.guess.specs.Guess.{guessAnswer, scratchLeaves};
 ghost use Rattle.ratio.specs.Ratio.{binRatioAnswer};
 ghost use Rattle.tmcc.specs.Tmcc.{softAnswer};
 use carrier_lists::ContinualList;
+use carrier_role::RoleAnswer;
 use complex::C32;
 use complex::C64;
 use frame_start::FrameStart;
@@ -53,6 +55,26 @@ pub extern "C" fn sillurwy_role_map(mode: u8, phase: u8, kinds: &[u8], out: &mut
     ensures { λ r. ⌜ RoleMap (modeFrom mode) phase (now (kinds .entry)) (now (out .entry)) r (now (out .exit)) ⌝ }
 {
     frame::role_map(mode, phase, kinds, out)
+}
+
+// The role byte of one carrier of the band.
+#[no_mangle]
+pub extern "C" fn sillurwy_carrier_role(
+    mode: u8,
+    phase: u8,
+    kinds: &[u8],
+    k: usize,
+    role: &mut u8,
+) -> u8
+    ensures { λ r. ⌜ RoleLent (roleAnswer (modeFrom mode) phase (now (kinds .entry)) k) (now (role .entry)) r (now (role .exit)) ⌝ }
+{
+    match carrier_role::carrier_role(mode, phase, kinds, BandCarrier(k)) {
+        RoleAnswer::Role(found) => {
+            *role = found.byte();
+            0
+        }
+        RoleAnswer::Refused(code) => code,
+    }
 }
 
 // The pilot sign of each carrier of the band.

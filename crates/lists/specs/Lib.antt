@@ -4,3 +4,4 @@ pub mod Tests
 pub mod Truth
 pub mod Select
 pub mod Fill
+pub mod Search

@@ -32,6 +32,17 @@ placeOf seg = getD places seg 0
 abbrev pub firstCarrier : Mode → ℕ → ℕ
 firstCarrier m place = place * carriersPerSegment m
 
+-- the carrier at a place of the segment that has a place in the band
+abbrev pub carrierAt : Mode → ℕ → ℕ → ℕ
+carrierAt m place p = firstCarrier m place + p
+
+-- and back: the place in the band of a carrier's segment, and the carrier's place in its segment
+abbrev pub bandPlace : Mode → ℕ → ℕ
+bandPlace m k = k / carriersPerSegment m
+
+abbrev pub segmentPlace : Mode → ℕ → ℕ
+segmentPlace m k = k % carriersPerSegment m
+
 -- the centre carrier, which has bin 0
 abbrev pub centerCarrier : Mode → ℕ
 centerCarrier m = (totalCarriers m - 1) / 2

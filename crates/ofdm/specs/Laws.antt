@@ -4,9 +4,9 @@
 use Prim.Native.Nat.{ℕ, _+_, _*_, _-_, _<_, _≤_}
 use mathlib.Core.Path.{_≡_, refl, ap, _∙_}
 use native.Mathlib.Omega.{arith}
-use native.Mathlib.Nat.{suc-mul, mul-le-mul-right, mod-eq-of-lt, add-mod-right}
+use native.Mathlib.Nat.{suc-mul, mul-le-mul-right, mod-eq-of-lt, add-mod-right, div-add-mod', div-lt-iff-lt-mul, mod-lt}
 use borrow.Author.Tests.{ltb-true, eqb-true}
-use lib.Arith.{digits-lt}
+use lib.Arith.{digits-lt, digits-div, digits-mod}
 use lib.Dec.{eqb, ltb}
 use Rattle.lists.specs.Refusals.{numbered}
 use Rattle.lists.specs.Tests.{allBelow-at}
@@ -17,7 +17,8 @@ use Rattle.params.specs.Params.{carriersPerSegment, totalCarriers, fftSize}
 use Rattle.params.specs.Laws.{sized}
 use Rattle.ofdm.specs.declared.BinLookup.{BinLookup}
 use Rattle.ofdm.specs.declared.BinLookup.the-variants.{Refused}
-use Rattle.ofdm.specs.Band.{segmentAt, placeOf, centerCarrier, binOf, binCode, binLookup, binNumber, BinLookedUp}
+use Rattle.ofdm.specs.Band.{segmentAt, placeOf, firstCarrier, carrierAt, bandPlace, segmentPlace}
+use Rattle.ofdm.specs.Band.{centerCarrier, binOf, binCode, binLookup, binNumber, BinLookedUp}
 
 pub segment-below : (place : ℕ) → place < 13 → segmentAt place < 13
 segment-below place h = ltb-true _ _ (allBelow-at (λ p. ltb (segmentAt p) 13) 13 refl place h)
@@ -40,6 +41,21 @@ segment-ends m place h =
 
 pub carrier-below : (m : Mode) (place p : ℕ) → place < 13 → p < carriersPerSegment m → place * carriersPerSegment m + p < 13 * carriersPerSegment m
 carrier-below m place p h l = digits-lt h l
+
+-- a carrier below the edge of a band lies in one of its segments, at a place of it
+pub in-band : (m : Mode) (segments k : ℕ) → k < firstCarrier m segments → bandPlace m k < segments
+in-band m segments k h = div-lt-iff-lt-mul {k = carriersPerSegment m} {x = k} {y = segments} (omega (arith, sized m .carriers-low)) .1 h
+
+pub in-segment : (m : Mode) (k : ℕ) → segmentPlace m k < carriersPerSegment m
+in-segment m k = mod-lt k (omega (arith, sized m .carriers-low))
+
+-- the two ways undo each other
+pub carrier-of-place : (m : Mode) (k : ℕ) → carrierAt m (bandPlace m k) (segmentPlace m k) ≡ k
+carrier-of-place m k = div-add-mod' k (carriersPerSegment m)
+
+pub place-of-carrier : (m : Mode) (place p : ℕ) → p < carriersPerSegment m
+    → (bandPlace m (carrierAt m place p) ≡ place) × (segmentPlace m (carrierAt m place p) ≡ p)
+place-of-carrier m place p h = (digits-div place h, digits-mod place h)
 
 -- from the centre up, a carrier's bin is its distance from the centre
 pub bin-above : (m : Mode) (k : ℕ) → centerCarrier m ≤ k → k < totalCarriers m → binOf m k ≡ k - centerCarrier m

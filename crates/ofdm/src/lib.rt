@@ -4,7 +4,8 @@
 ghost use mathlib.Core.Path.{_≡_};
 ghost use Prim.Native.Nat.{_<_, _≤_, _+_, _*_, _%_};
 ghost use Rattle.params.specs.Params.{modeFrom, carriersPerSegment, totalCarriers};
-ghost use Rattle.ofdm.specs.Band.{segmentAt, placeOf, firstCarrier, binOf, ZeroBand, BinLookedUp};
+ghost use Rattle.ofdm.specs.Band.{segmentAt, placeOf, firstCarrier, carrierAt, bandPlace, segmentPlace};
+ghost use Rattle.ofdm.specs.Band.{binOf, ZeroBand, BinLookedUp};
 use params::Mode;
 use params::ModeNumber;
 
@@ -56,9 +57,27 @@ pub fn first_carrier(mode: Mode, place: BandPlace) -> BandCarrier
 // The carrier at a place of the segment that has a place in the band.
 pub fn band_carrier(mode: Mode, place: BandPlace, p: SegmentPlace) -> BandCarrier
     requires { ⌜ (place .0 < 13) × (p .0 < carriersPerSegment mode) ⌝ }
-    ensures { λ r. ⌜ r .0 ≡ place .0 * carriersPerSegment mode + p .0 ⌝ }
+    ensures { λ r. ⌜ r .0 ≡ carrierAt mode (place .0) (p .0) ⌝ }
 {
     BandCarrier(first_carrier(mode, place).0 + p.0)
+}
+
+// Where a carrier is: its segment's place in the band, and its own place in that segment.
+pub struct CarrierPlace {
+    pub band: BandPlace,
+    pub segment: SegmentPlace,
+}
+
+// The way back from `band_carrier`, for a carrier below the edge.
+pub fn carrier_place(mode: Mode, k: BandCarrier) -> CarrierPlace
+    requires { ⌜ k .0 < firstCarrier mode 13 ⌝ }
+    ensures { λ r. ⌜ (r .band .0 ≡ bandPlace mode (k .0)) × (r .segment .0 ≡ segmentPlace mode (k .0)) ⌝ }
+{
+    let c = mode.carriers_per_segment();
+    CarrierPlace {
+        band: BandPlace(k.0 / c),
+        segment: SegmentPlace(k.0 % c),
+    }
 }
 
 // The FFT bin of a carrier of the band.

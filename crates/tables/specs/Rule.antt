@@ -1,5 +1,5 @@
--- The tables' rule, for every mode, kind, row and phase: each entry is a place of the segment, no place has two roles, and the places
--- that no role claims are as many as the segment's data carriers. antt computes tests over all rows, and the laws read the rule off them.
+-- The tables' rule, for every mode, kind, row and phase: a row ascends, each entry is a place of the segment, no place has two roles, and the
+-- places that no role claims are as many as the segment's data carriers. antt computes tests over all rows, and the laws read the rule off them.
 -- Assumes nothing.
 use Prim.Native.Nat.{ℕ, zero, suc, _+_, _≤_, _<_}
 use mathlib.Core.Bool.{Bool, true, false, _&&_, _||_, and-assoc}
@@ -13,6 +13,8 @@ use borrow.Author.Tests.{leb-true, ltb-true, eqb-true, eq-eqb, ne-eqb}
 use lib.Dec.{eqb, ltb, leb, lit≤}
 use lib.ListN.{length, getD}
 use Rattle.lists.specs.Tests.{allBelow, countBelow, allIn, memb, both-left, both-right, allBelow-at, allIn-at}
+use Rattle.lists.specs.Select.{Ascending}
+use Rattle.lists.specs.Search.{ascends, ascends-true}
 use Rattle.params.specs.declared.Mode.{Mode}
 use Rattle.params.specs.declared.Mode.the-variants.{M1, M2, M3}
 use Rattle.params.specs.declared.SegmentKind.{SegmentKind}
@@ -30,8 +32,11 @@ inside mode xs = allIn (λ x. ltb x (carriersPerSegment mode)) xs
 abbrev short : List ℕ → Bool
 short xs = leb (length xs) 20
 
+abbrev isRow : List ℕ → Bool
+isRow xs = short xs && ascends 0 xs
+
 abbrev fits : Mode → List ℕ → Bool
-fits mode xs = inside mode xs && short xs
+fits mode xs = inside mode xs && isRow xs
 
 abbrev othersTest : Mode → SegmentKind → ℕ → Bool
 othersTest mode kind row = fits mode (ac1Of mode kind row) && fits mode (ac2Of mode kind row)
@@ -162,13 +167,19 @@ pilots-few Differential phase p = omega (arith, one-few (isCp Differential p))
 
 module _ (mode : Mode) (xs : List ℕ) (tested : fits mode xs ≡ true) where
   all-inside : inside mode xs ≡ true
-  all-inside = both-left (inside mode xs) (short xs) tested
+  all-inside = both-left (inside mode xs) (isRow xs) tested
+
+  is-row : isRow xs ≡ true
+  is-row = both-right (inside mode xs) (isRow xs) tested
 
   below : (i : ℕ) → i < length xs → getD xs i 0 < carriersPerSegment mode
   below i h = ltb-true _ _ (allIn-at (λ x. ltb x (carriersPerSegment mode)) xs all-inside i h)
 
   few : length xs ≤ 20
-  few = leb-true _ _ (both-right (inside mode xs) (short xs) tested)
+  few = leb-true _ _ (both-left (short xs) (ascends 0 xs) is-row)
+
+  ascending : Ascending xs
+  ascending = ascends-true 0 xs (both-right (short xs) (ascends 0 xs) is-row)
 
 module _ (mode : Mode) (kind : SegmentKind) (row : ℕ) (in-table : row < 13) where
   row-tested : fitsTest mode kind row ≡ true
@@ -215,6 +226,16 @@ module _ (mode : Mode) (kind : SegmentKind) (row : ℕ) (in-table : row < 13) wh
 
   pub ac2-short : length (ac2Of mode kind row) ≤ 20
   ac2-short = few mode (ac2Of mode kind row) ac2-fits
+
+  -- every list ascends
+  pub tmcc-ascending : Ascending (tmccOf mode kind row)
+  tmcc-ascending = ascending mode (tmccOf mode kind row) tmcc-fits
+
+  pub ac1-ascending : Ascending (ac1Of mode kind row)
+  ac1-ascending = ascending mode (ac1Of mode kind row) ac1-fits
+
+  pub ac2-ascending : Ascending (ac2Of mode kind row)
+  ac2-ascending = ascending mode (ac2Of mode kind row) ac2-fits
 
 claims-tested : (mode : Mode) (kind : SegmentKind) (row phase : ℕ) → row < 13 → phase < 4 → claimsTest mode kind row phase ≡ true
 claims-tested mode Coherent row phase r ph =

@@ -13,9 +13,11 @@ use std::time::Instant;
 const USAGE: &str = "\
 compare: the proved port beside the Rust
 
-  --quick     fewer random floats and captures; everything else the same
+  --quick     fewer random floats and captures, and one by one the carriers of every 17th layout
+              instead of all; everything else the same
   --seed N    seed of the random calls, the random floats and the damaged lines (default 1)
-  --cases N   random calls of each operation (default 4096)
+  --cases N   random calls of each operation (default 4096); of the carrier role five times as
+              many, since at least 20,000 are asked for
   --floats N  random inputs of each function of floats (default 100,000,000; with --quick
               15,000,000)
   --captures N
@@ -37,6 +39,11 @@ const QUICK_FLOATS: u64 = 15_000_000;
 const CAPTURES: usize = 20_000;
 /// The same with `--quick`.
 const QUICK_CAPTURES: usize = 4000;
+/// Every layout's carriers are looked up one by one.
+const SPREAD: usize = 1;
+/// With `--quick` those of every 17th layout. Kinds and phases come round after powers of two, which
+/// have no factor in common with 17: each segment has either kind in each phase.
+const QUICK_SPREAD: usize = 17;
 
 struct Options {
     plan: Plan,
@@ -50,12 +57,16 @@ fn options() -> Options {
         calls: 4096,
         floats: FLOATS,
         captures: CAPTURES,
+        spread: SPREAD,
     };
     let mut operations = OPERATIONS.to_vec();
     let (mut floats, mut captures) = (None, None);
     while let Some(word) = args.next_word() {
         match word.as_str() {
-            "--quick" => (plan.floats, plan.captures) = (QUICK_FLOATS, QUICK_CAPTURES),
+            "--quick" => {
+                (plan.floats, plan.captures) = (QUICK_FLOATS, QUICK_CAPTURES);
+                plan.spread = QUICK_SPREAD;
+            }
             "--seed" => plan.seed = args.number("--seed"),
             "--cases" => plan.calls = args.number("--cases") as usize,
             "--floats" => floats = Some(args.number("--floats")),
@@ -76,12 +87,16 @@ impl Options {
             calls,
             floats,
             captures,
+            spread,
             ..
         } = self.plan;
         let of_parts = [
             (
                 "layout",
-                format!(", {calls} random calls of each operation of the layout"),
+                format!(
+                    ", {calls} random calls of each operation of the layout (of the carrier role \
+                     five times as many, and every carrier of one layout in {spread})"
+                ),
             ),
             (
                 "floats",
@@ -156,5 +171,24 @@ fn main() -> ExitCode {
         ExitCode::from(u8::from(differences > 0))
     } else {
         ExitCode::from(2)
+    }
+}
+
+#[cfg(test)]
+mod tests {
+    use super::*;
+    use oracle::codes::kind_bytes;
+    use oracle::inputs::layouts;
+    use std::collections::BTreeSet;
+
+    #[test]
+    fn the_quick_spread_meets_either_kind_of_each_segment_in_each_mode_and_phase() {
+        let mut met = BTreeSet::new();
+        for index in (0..layouts::WITH_PHASES).step_by(QUICK_SPREAD) {
+            let (layout, choice, phase) = layouts::with_phase(index);
+            let kinds = kind_bytes(choice).into_iter().enumerate();
+            met.extend(kinds.map(|(segment, kind)| (layout.mode.number(), phase, segment, kind)));
+        }
+        assert_eq!(met.len(), 3 * 4 * 13 * 2);
     }
 }

@@ -19,6 +19,8 @@ pub struct Plan {
     pub floats: u64,
     /// Random calls, and changed captures, of each operation that takes a capture.
     pub captures: usize,
+    /// Of the layouts whose carriers are looked up one by one, every how many-th is taken.
+    pub spread: usize,
 }
 
 /// Cases in a job of one thread.

@@ -10,11 +10,11 @@ pub fn value_row<I: Copy>(
     part: &'static str,
     inputs: &[I],
     effort: &Effort,
-    port: impl Fn(I) -> u64,
-    rust: impl Fn(I) -> u64,
+    mut port: impl FnMut(I) -> u64,
+    mut rust: impl FnMut(I) -> u64,
 ) -> Row {
-    let port = |_| all_of(inputs, &port);
-    let rust = |_| all_of(inputs, &rust);
+    let port = |_| all_of(inputs, &mut port);
+    let rust = |_| all_of(inputs, &mut rust);
     Row {
         operation,
         part,
@@ -24,13 +24,17 @@ pub fn value_row<I: Copy>(
 
 /// The function at each input. It gives bits; those of all results are put together, so that each
 /// is needed.
-fn all_of<I: Copy>(inputs: &[I], function: impl Fn(I) -> u64) {
+fn all_of<I: Copy>(inputs: &[I], mut function: impl FnMut(I) -> u64) {
     let inputs = black_box(inputs).iter();
     black_box(inputs.fold(0, |all, &input| all ^ function(input)));
 }
 
 /// The function of the port is first seen to agree with the Rust's.
-pub fn agree<I: Copy + Debug>(inputs: &[I], port: impl Fn(I) -> u64, rust: impl Fn(I) -> u64) {
+pub fn agree<I: Copy + Debug>(
+    inputs: &[I],
+    mut port: impl FnMut(I) -> u64,
+    mut rust: impl FnMut(I) -> u64,
+) {
     for &input in inputs {
         assert_eq!(port(input), rust(input), "{input:?}");
     }

@@ -53,6 +53,16 @@ pub fn boundary_lengths(mode: u8, right: fn(Mode) -> usize) -> Vec<usize> {
     lengths
 }
 
+/// The carriers around the last one, and far off.
+pub fn boundary_carriers(mode: u8) -> Vec<usize> {
+    let mut carriers = vec![0, 1 << 16, 1 << 32, usize::MAX >> 1, 1 << 63, usize::MAX];
+    carriers.extend(MODES.map(Mode::total_carriers));
+    if let Ok(mode) = mode_of(mode) {
+        carriers.extend([mode.total_carriers() - 1, mode.total_carriers() + 1]);
+    }
+    carriers
+}
+
 /// A mode, mostly good.
 pub fn random_mode(rng: &mut Rng) -> u8 {
     if rng.once_in(16) {
@@ -89,6 +99,15 @@ pub fn random_length(rng: &mut Rng, right: usize) -> usize {
         1 => right + 1,
         2 => rng.below(2 * right),
         _ => right,
+    }
+}
+
+/// A carrier, mostly in a band of so many, else of any size.
+pub fn random_carrier(rng: &mut Rng, total: usize) -> usize {
+    if rng.once_in(8) {
+        (rng.next_u64() >> rng.below(64)) as usize
+    } else {
+        rng.below(total + 2)
     }
 }
 

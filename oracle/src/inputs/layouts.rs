@@ -10,6 +10,9 @@ use crate::isdb::params::Mode;
 /// How many modes and choices of kinds there are.
 pub const COUNT: usize = MODES.len() * KINDS as usize;
 
+/// How many there are with their phases.
+pub const WITH_PHASES: usize = COUNT * PHASES as usize;
+
 /// The Rust's layout of one of all modes and choices of kinds, below [`COUNT`], and the choice.
 pub fn layout(index: usize) -> (FrameLayout, u16) {
     let kinds = usize::from(KINDS);
@@ -17,16 +20,24 @@ pub fn layout(index: usize) -> (FrameLayout, u16) {
     (FrameLayout::new(mode, kinds_of_choice(choice)), choice)
 }
 
-/// Every combination of phases, kinds and the given lengths.
+/// One of all modes, choices of kinds and phases, below [`WITH_PHASES`]: the layout, the choice and the
+/// phase. The next one has the next phase, or the next choice of kinds.
+pub fn with_phase(index: usize) -> (FrameLayout, u16, u8) {
+    let phases = usize::from(PHASES);
+    let (layout, choice) = layout(index / phases);
+    (layout, choice, (index % phases) as u8)
+}
+
+/// Every combination of phases, kinds and the given sizes: lengths of what is lent, or carriers.
 pub fn boundary_layouts<C>(
-    lengths: &[usize],
+    sizes: &[usize],
     call: impl Fn(u8, Vec<u8>, usize) -> C,
 ) -> Vec<Unfilled<C>> {
     let mut calls = Vec::new();
     for phase in PHASE_NUMBERS {
         for kinds in boundary_kinds() {
-            for &len in lengths {
-                calls.push((call(phase, kinds.clone(), len), 0));
+            for &size in sizes {
+                calls.push((call(phase, kinds.clone(), size), 0));
             }
         }
     }

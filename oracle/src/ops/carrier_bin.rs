@@ -11,7 +11,9 @@ use crate::harness::stored::Record;
 use crate::harness::tally::Row;
 use crate::harness::timed_values::{agree, value_row};
 use crate::harness::timing::{self, Effort};
-use crate::inputs::arguments::{MODE_NUMBERS, random_mode, size};
+use crate::inputs::arguments::{
+    MODE_NUMBERS, boundary_carriers, random_carrier, random_mode, size,
+};
 use crate::inputs::timed_layouts::of_modes;
 use crate::isdb::ofdm;
 use crate::isdb::params::Mode;
@@ -62,25 +64,6 @@ impl fmt::Display for BinCall {
 }
 
 // ---- The calls that are compared
-
-/// The carriers around the last one, and far off.
-fn boundary_carriers(mode: u8) -> Vec<usize> {
-    let mut carriers = vec![0, 1 << 16, 1 << 32, usize::MAX >> 1, 1 << 63, usize::MAX];
-    carriers.extend(MODES.map(Mode::total_carriers));
-    if let Ok(mode) = mode_of(mode) {
-        carriers.extend([mode.total_carriers() - 1, mode.total_carriers() + 1]);
-    }
-    carriers
-}
-
-/// A carrier, mostly in the band, else of any size.
-fn random_carrier(rng: &mut Rng, total: usize) -> usize {
-    if rng.once_in(8) {
-        (rng.next_u64() >> rng.below(64)) as usize
-    } else {
-        rng.below(total + 2)
-    }
-}
 
 impl Call for BinCall {
     const TITLE: &'static str = "bin lookup";

@@ -4,6 +4,7 @@
 
 pub mod bin_ratio;
 pub mod carrier_bin;
+pub mod carrier_role;
 pub mod continual_list;
 pub mod data_list;
 pub mod detect_kinds;
@@ -50,9 +51,10 @@ pub struct Operation {
 }
 
 /// Every operation, part by part.
-pub const OPERATIONS: [Operation; 19] = [
+pub const OPERATIONS: [Operation; 20] = [
     carrier_bin::OPERATION,
     role_map::OPERATION,
+    carrier_role::OPERATION,
     sign_map::OPERATION,
     data_list::OPERATION,
     continual_list::OPERATION,
@@ -163,7 +165,7 @@ mod tests {
                 .then_some(name)
         };
         let functions = distinct(header.lines().filter_map(declared));
-        assert!(functions.len() >= 18, "{functions:?}");
+        assert!(functions.len() >= 19, "{functions:?}");
         let rows = distinct(numbered().into_iter().map(|(_, row)| row.name));
         assert_eq!(functions, rows);
     }
@@ -187,7 +189,7 @@ mod tests {
     #[test]
     fn layouts_are_timed_in_each_mode() {
         let layouts = timed("layout");
-        assert!(layouts.len() >= 5);
+        assert!(layouts.len() >= 6);
         for (name, rows) in layouts {
             let of_mode = |number: u8| {
                 let mode = format!(", mode {number}");

@@ -4,6 +4,7 @@
 
 mod bin_ratio;
 mod carrier_bin;
+mod carrier_role;
 mod continual_list;
 mod data_list;
 mod detect_kinds;

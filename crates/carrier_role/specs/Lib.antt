@@ -1,0 +1,3 @@
+pub mod CarrierRole
+pub mod Inner
+pub mod Facts
