@@ -22,7 +22,7 @@ use replay::check_words;
 use tally::Tally;
 
 // How many operations there are; their numbers are 1 to this.
-pub const OPERATIONS: u8 = 18;
+pub const OPERATIONS: u8 = 19;
 
 // What the head of a record says of the call: what it returns, the arguments that are numbers, in the
 // order of the C function, and the entries of the list that is lent to be written. No operation is
@@ -313,6 +313,12 @@ fn bin_ratio(call: Call, pairs: &[f32]) -> Tally {
     check_float(ratio, answered(code, call))
 }
 
+fn carrier_role(call: Call, kinds: &[u8]) -> Tally {
+    let mut role: u8 = 77;
+    let code = host::sillurwy_carrier_role(call.mode, call.choice, kinds, call.third, &mut role);
+    check_byte(role, answered(code, call))
+}
+
 // A function of floats hands back its value in place of something lent, and refuses nothing: the code
 // that is stored is 0.
 fn root(a: f64, tally: Tally) -> Tally {
@@ -364,6 +370,7 @@ fn check_call(operation: u8, call: Call, bytes: &[u8], more_bytes: &[u8], floats
         12 => estimate_grid(call, bytes, floats),
         17 => frame_start(call, floats),
         18 => bin_ratio(call, floats),
+        19 => carrier_role(call, bytes),
         _ => broken(),
     }
 }
