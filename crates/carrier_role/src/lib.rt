@@ -124,13 +124,14 @@ pub fn carrier_role(mode: u8, phase: u8, kinds: &[u8], k: BandCarrier) -> RoleAn
     if code != 0 {
         return RoleAnswer::Refused(code);
     }
+    let layout = new.layout;
+    let m = layout.mode;
+    let k_total = m.total_carriers();
+    let number = k.0;
     if 3 < phase {
         return RoleAnswer::Refused(3);
     }
-    let layout = new.layout;
-    let m = layout.mode;
-    let number = k.0;
-    if m.total_carriers() <= number {
+    if k_total <= number {
         return RoleAnswer::Refused(4);
     }
     RoleAnswer::Role(band_role(layout, phase, k))

@@ -11,6 +11,7 @@ use Rattle.params.specs.declared.Mode.{Mode}
 use Rattle.params.specs.declared.ModeNumber.{ModeNumber}
 use Rattle.params.specs.declared.ModeNumber.the-variants.{Known, Unknown}
 use Rattle.params.specs.Params.{carriersPerSegment, totalCarriers, fftSize}
+use Rattle.ofdm.specs.declared.CarrierPlace.{CarrierPlace}
 use Rattle.ofdm.specs.declared.BinLookup.{BinLookup}
 use Rattle.ofdm.specs.declared.BinLookup.the-variants.{Bin, Refused}
 
@@ -42,6 +43,13 @@ bandPlace m k = k / carriersPerSegment m
 
 abbrev pub segmentPlace : Mode → ℕ → ℕ
 segmentPlace m k = k % carriersPerSegment m
+
+-- what `carrier_place` gives for a carrier below the edge
+pub record Placed (m : Mode) (k : ℕ) (r : CarrierPlace) : Type 0 where
+  pub band : r .band .0 ≡ bandPlace m k
+  pub segment : r .segment .0 ≡ segmentPlace m k
+  pub band-below : r .band .0 < 13
+  pub segment-below : r .segment .0 < carriersPerSegment m
 
 -- the centre carrier, which has bin 0
 abbrev pub centerCarrier : Mode → ℕ

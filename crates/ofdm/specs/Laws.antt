@@ -15,9 +15,10 @@ use Rattle.params.specs.declared.ModeNumber.{ModeNumber}
 use Rattle.params.specs.declared.ModeNumber.the-variants.{Known, Unknown}
 use Rattle.params.specs.Params.{carriersPerSegment, totalCarriers, fftSize}
 use Rattle.params.specs.Laws.{sized}
+use Rattle.ofdm.specs.declared.CarrierPlace.{CarrierPlace}
 use Rattle.ofdm.specs.declared.BinLookup.{BinLookup}
 use Rattle.ofdm.specs.declared.BinLookup.the-variants.{Refused}
-use Rattle.ofdm.specs.Band.{segmentAt, placeOf, firstCarrier, carrierAt, bandPlace, segmentPlace}
+use Rattle.ofdm.specs.Band.{segmentAt, placeOf, firstCarrier, carrierAt, bandPlace, segmentPlace, Placed}
 use Rattle.ofdm.specs.Band.{centerCarrier, binOf, binCode, binLookup, binNumber, BinLookedUp}
 
 pub segment-below : (place : ℕ) → place < 13 → segmentAt place < 13
@@ -56,6 +57,14 @@ carrier-of-place m k = div-add-mod' k (carriersPerSegment m)
 pub place-of-carrier : (m : Mode) (place p : ℕ) → p < carriersPerSegment m
     → (bandPlace m (carrierAt m place p) ≡ place) × (segmentPlace m (carrierAt m place p) ≡ p)
 place-of-carrier m place p h = (digits-div place h, digits-mod place h)
+
+-- so `carrier_place`, which gives r, and `band_carrier` do
+pub carrier-again : {m : Mode} {k : ℕ} {r : CarrierPlace} → Placed m k r → carrierAt m (r .band .0) (r .segment .0) ≡ k
+carrier-again {m} {k} w = rw (w .band, w .segment) (carrier-of-place m k)
+
+pub place-again : {m : Mode} (place p : ℕ) {r : CarrierPlace} → p < carriersPerSegment m → Placed m (carrierAt m place p) r
+    → (r .band .0 ≡ place) × (r .segment .0 ≡ p)
+place-again {m} place p h w = let e = place-of-carrier m place p h in (w .band ∙ e .0, w .segment ∙ e .1)
 
 -- from the centre up, a carrier's bin is its distance from the centre
 pub bin-above : (m : Mode) (k : ℕ) → centerCarrier m ≤ k → k < totalCarriers m → binOf m k ≡ k - centerCarrier m

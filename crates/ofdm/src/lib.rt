@@ -4,8 +4,7 @@
 ghost use mathlib.Core.Path.{_≡_};
 ghost use Prim.Native.Nat.{_<_, _≤_, _+_, _*_, _%_};
 ghost use Rattle.params.specs.Params.{modeFrom, carriersPerSegment, totalCarriers};
-ghost use Rattle.ofdm.specs.Band.{segmentAt, placeOf, firstCarrier, carrierAt, bandPlace, segmentPlace};
-ghost use Rattle.ofdm.specs.Band.{binOf, ZeroBand, BinLookedUp};
+ghost use Rattle.ofdm.specs.Band.{segmentAt, placeOf, firstCarrier, carrierAt, Placed, binOf, ZeroBand, BinLookedUp};
 use params::Mode;
 use params::ModeNumber;
 
@@ -71,7 +70,7 @@ pub struct CarrierPlace {
 // The way back from `band_carrier`, for a carrier below the edge.
 pub fn carrier_place(mode: Mode, k: BandCarrier) -> CarrierPlace
     requires { ⌜ k .0 < firstCarrier mode 13 ⌝ }
-    ensures { λ r. ⌜ (r .band .0 ≡ bandPlace mode (k .0)) × (r .segment .0 ≡ segmentPlace mode (k .0)) ⌝ }
+    ensures { λ r. ⌜ Placed mode (k .0) r ⌝ }
 {
     let c = mode.carriers_per_segment();
     CarrierPlace {

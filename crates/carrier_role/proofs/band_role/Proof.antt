@@ -59,13 +59,7 @@ carrier-place-requires c κs =
     below-edge (a .layout .mode) (a .layout .kinds) (a .phase) (a .k .0) _ (s .pre) (e .first-carrier .ensures) (c .if1 .left)
 
 segment-at-position-requires : tie.Need-segment-at-position-requires
-segment-at-position-requires c κs =
-    let at = c .before .before in
-    let e = at .before .before .before .before in
-    let s = e .before in
-    let a = s .args in
-    rw (at .carrier-place .ensures .0)
-    (place-below (a .layout .mode) (a .layout .kinds) (a .phase) (a .k .0) _ (s .pre) (e .first-carrier .ensures) (at .before .if1 .left))
+segment-at-position-requires c κs = search needs
 
 kind-requires : tie.Need-kind-requires
 kind-requires c κs = search needs
@@ -82,7 +76,7 @@ returns-2 c =
     let s = e .before in
     let a = s .args in
     of-place (a .layout .mode) (a .layout .kinds) (a .phase) (a .k .0) _ (s .pre) (e .first-carrier .ensures) (at .before .if1 .left)
-    _ _ _ _ _ (at .carrier-place .ensures .0) (seg .segment-at-position .ensures .0) (at .carrier-place .ensures .1) (kind .kind .ensures)
+    _ _ _ _ _ (at .carrier-place .ensures .band) (seg .segment-at-position .ensures .0) (at .carrier-place .ensures .segment) (kind .kind .ensures)
     (c .place-role .ensures)
 
 pub band-role-spec : {M : Type 1} → statement M

@@ -55,7 +55,7 @@ cast-place c = search needs
 returns : tie.Need-returns Inv-loop μ-loop
 returns c =
     let s = c .before .before .before .before in
-    stop _ (s .pre) (search needs) _ _ (c .before .before .loop .inv .1) (c .before .loop-test .taken) (c .if1 .taken)
+    stop _ (s .pre) (search needs) _ _ (c .before .before .loop .inv .1) (c .before .loop-test .taken) (omega arith)
 
 add-i : tie.Need-add-i Inv-loop μ-loop
 add-i c = search needs
