@@ -25,11 +25,11 @@ use Rattle.carrier_lists.specs.CarrierLists.{segmentData, dataList, cont
 use Rattle.frame.specs.OneRole.{segment-length, band-length, wide-size}
 use Rattle.carrier_lists.specs.DataList.{data-length}
 use Rattle.carrier_lists.specs.Continual.{continual-listed}
-use Rattle.frame.specs.Operations.{areKinds, layoutCode}
+use Rattle.frame.specs.Operations.{areKinds}
 use Rattle.carrier_lists.specs.Operations.{ContinualListed, continualListCode, continualListAnswer, continualListLeaves}
 use Rattle.frame.specs.Inner.{AcceptedLayout}
 use Rattle.carrier_lists.specs.Inner.{DataRoom, dataIn, Continual, BandBuffer}
-use Rattle.frame.specs.Answers.{kinds-good}
+use Rattle.frame.specs.Answers.{kinds-good, by-refusal}
 
 module _ (mode : Mode) (phase : ℕ) (kinds : List ℕ) where
   abbrev roles : List ℕ
@@ -94,17 +94,10 @@ module _ (mode : Mode) (phase : ℕ) (kinds : List ℕ) where
 -- the continual list of a layout that was refused, or accepted
 module _ (number : ModeNumber) (kinds : List ℕ) (code : ℕ) (m : Mode) (read : List ℕ) (a : AcceptedLayout number kinds code m read) where
   pub continual-refused : (out : List ℕ) → (code ≡ 0 → ⊥) → ContinualListed number kinds out (Refused code) out
-  unfolding layoutCode continualListCode continualListAnswer continualListLeaves
-  continual-refused out h = by number (a .refusal)
-    where
-      tested : (k : Mode) (good : Bool) → areKinds kinds ≡ good → code ≡ layoutCode (Known k) kinds
-          → ContinualListed (Known k) kinds out (Refused code) out
-      tested k true g e = absurd (h (rw g at e))
-      tested k false g e = continual-listed (Known k) kinds out _ _ (rw g (ap Refused (rw g at e))) (rw g)
-
-      by : (n : ModeNumber) → code ≡ layoutCode n kinds → ContinualListed n kinds out (Refused code) out
-      by Unknown e = continual-listed Unknown kinds out _ _ (ap Refused e) refl
-      by (Known k) e = tested k (areKinds kinds) refl e
+  unfolding continualListCode continualListAnswer continualListLeaves
+  continual-refused out =
+      by-refusal number kinds code m read a (λ n c. ContinualListed n kinds out (Refused c) out) (continual-listed Unknown kinds out _ _ refl refl)
+      (λ k g. continual-listed (Known k) kinds out _ _ (rw g) (rw g))
 
   pub continual-answered : (out : List ℕ) (r : ContinualList) (out' : List ℕ) → code ≡ 0
       → Continual (bandRoles m 0 (wide read)) out r out' → ContinualListed number kinds out r out'

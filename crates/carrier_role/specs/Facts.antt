@@ -2,19 +2,18 @@
 -- what the role map leaves.
 -- Assumes nothing.
 use Prim.Native.Nat.{ℕ, _<_}
-use mathlib.Core.Bool.{cond}
 use mathlib.Core.List.{List}
 use mathlib.Core.Path.{_≡_, refl, sym, ap, _∙_}
 use native.Mathlib.Omega.{arith}
 use borrow.Author.Tests.{lt-ltb, eq-eqb}
-use lib.Dec.{eqb, ltb, lit<}
-use lib.ListN.{length, getD}
-use Rattle.lists.specs.Refusals.{unless, passed, numbered}
+use lib.Dec.{ltb, lit<}
+use lib.ListN.{getD}
+use Rattle.lists.specs.Refusals.{passed, numbered}
 use Rattle.params.specs.declared.Mode.{Mode}
 use Rattle.params.specs.declared.ModeNumber.{ModeNumber}
 use Rattle.params.specs.declared.ModeNumber.the-variants.{Known, Unknown}
 use Rattle.params.specs.Params.{totalCarriers}
-use Rattle.frame.specs.Roles.{roleByte, bandRoles, roleAt, wide}
+use Rattle.frame.specs.Roles.{bandRoles, roleAt, wide}
 use Rattle.frame.specs.Operations.{areKinds, layoutMode, symbolCode, symbolLeaves, RoleMap}
 use Rattle.frame.specs.OneRole.{wide-size, map-says}
 use Rattle.carrier_role.specs.declared.RoleAnswer.{RoleAnswer}

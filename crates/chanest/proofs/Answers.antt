@@ -1,20 +1,18 @@
 -- What the tests on the way to a return make of the definition of `estimate_grid`.
 -- Assumes nothing.
 use Prim.Native.Nat.{ℕ}
-use mathlib.Core.Bool.{Bool, true, false}
+use mathlib.Core.Bool.{true, false}
 use mathlib.Core.List.{List}
 use mathlib.Core.Path.{_≡_, refl, sym, _∙_}
 use borrow.Author.Tests.{eq-eqb, ne-eqb}
 use lib.Dec.{eqb}
 use lib.ListN.{length}
 use lib.Ieee.{Float}
-use Rattle.lists.specs.Refusals.{unless}
 use Rattle.params.specs.declared.Mode.{Mode}
 use Rattle.params.specs.declared.ModeNumber.{ModeNumber}
 use Rattle.params.specs.declared.ModeNumber.the-variants.{Known, Unknown}
-use Rattle.frame.specs.Operations.{areKinds, layoutCode}
 use Rattle.frame.specs.Inner.{AcceptedLayout}
-use Rattle.frame.specs.Answers.{kinds-good}
+use Rattle.frame.specs.Answers.{kinds-good, by-refusal}
 use Rattle.pilot_times.specs.declared.Current.{Current}
 use Rattle.chanest.specs.Grid.{grid, windowCode, gridCode, gridLeaves, GridEstimated}
 
@@ -31,17 +29,12 @@ module _ {number : ModeNumber} {kinds : List ℕ} {code : ℕ} {m : Mode} {read 
       record { code = e; leaves = rw no }
 
   -- a layout's refusal is the operation's
-  layout-first : (k : ModeNumber) → (layoutCode k kinds ≡ 0 → ⊥) → layoutCode k kinds ≡ codeOf k
-  unfolding layoutCode gridCode
-  layout-first Unknown h = refl
-  layout-first (Known m) h = by (areKinds kinds) h
-    where
-      by : (b : Bool) → (_≡_ {A = ℕ} (unless b 2 0) 0 → ⊥) → unless b 2 0 ≡ unless b 2 (windowCode m (length xs) current (length old))
-      by true h = absurd (h refl)
-      by false h = refl
+  layout-first : (code ≡ 0 → ⊥) → code ≡ codeOf number
+  unfolding gridCode
+  layout-first = by-refusal number kinds code m read a (λ k c. c ≡ codeOf k) refl (λ k g. rw g)
 
   pub bad-layout : (code ≡ 0 → ⊥) → GridEstimated number kinds xs current old code old
-  bad-layout h = refused number code (a .refusal ∙ layout-first number (λ e. h (a .refusal ∙ e))) h
+  bad-layout h = refused number code (layout-first h) h
 
   -- an accepted layout, and the code of the other numbers
   module _ (z : code ≡ 0) {n : ℕ} (e : n ≡ windowCode m (length xs) current (length old)) where

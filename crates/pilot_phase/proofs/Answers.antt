@@ -1,7 +1,7 @@
 -- What the tests on the way to a return make of the definition of `detect_sp_phase`.
 -- Assumes nothing.
 use Prim.Native.Nat.{ℕ, _*_, _-_, _/_, _%_, _≤_, _<_}
-use mathlib.Core.Bool.{Bool, true, false, _&&_}
+use mathlib.Core.Bool.{true, false, _&&_}
 use mathlib.Core.List.{List}
 use mathlib.Core.Path.{_≡_, refl, sym, ap, _∙_}
 use native.Mathlib.Decide.{ℕ-discrete}
@@ -10,16 +10,15 @@ use borrow.Author.Tests.{eq-eqb, ne-eqb, eqb-true, leb-true, le-leb, lt-leb, not
 use lib.Dec.{eqb, leb, lit<}
 use lib.ListN.{length, getD}
 use lib.Ieee.{Float}
-use Rattle.lists.specs.Refusals.{unless, passed}
+use Rattle.lists.specs.Refusals.{passed}
 use Rattle.lists.specs.Tests.{both-left, both-right}
 use Rattle.params.specs.declared.Mode.{Mode}
 use Rattle.params.specs.declared.ModeNumber.{ModeNumber}
 use Rattle.params.specs.declared.ModeNumber.the-variants.{Known, Unknown}
 use Rattle.params.specs.Params.{totalCarriers}
-use Rattle.spectra.specs.Spectra.{spectraIn, areSpectra}
-use Rattle.frame.specs.Operations.{areKinds, layoutCode}
+use Rattle.spectra.specs.Spectra.{spectraIn}
 use Rattle.frame.specs.Inner.{AcceptedLayout}
-use Rattle.frame.specs.Answers.{kinds-good}
+use Rattle.frame.specs.Answers.{kinds-good, by-refusal}
 use Rattle.ballots.specs.Ballots.{pilots, ballots}
 use Rattle.ballots.specs.Facts.{ballots-length}
 use Rattle.ballots.specs.Inner.{somePilots}
@@ -109,15 +108,6 @@ refused-by (Known m) kinds xs {n} e h a =
     nothing-detected (Known m) kinds xs (rw no (ap Refused e)) (rw no) a
 
 -- ---- the layout's number and the length's are the operation's
-layout-refused : (number : ModeNumber) (kinds : List ℕ) (n : ℕ) → (layoutCode number kinds ≡ 0 → ⊥) → layoutCode number kinds ≡ phaseCode number kinds n
-unfolding layoutCode phaseCode
-layout-refused Unknown kinds n h = refl
-layout-refused (Known m) kinds n h = by (areKinds kinds) h
-  where
-    by : (b : Bool) → (_≡_ {A = ℕ} (unless b 2 0) 0 → ⊥) → unless b 2 0 ≡ unless b 2 (unless (areSpectra (totalCarriers m) n) 5 0)
-    by true h = absurd (h refl)
-    by false h = refl
-
 module _ {number : ModeNumber} {kinds : List ℕ} (xs : List Float) {code : ℕ} {m : Mode} {read : List ℕ} (a : AcceptedLayout number kinds code m read)
     {n : ℕ} (e : n ≡ lengthCode code m (length xs)) where
   code-is : n ≡ phaseCode number kinds (length xs)
@@ -126,7 +116,8 @@ module _ {number : ModeNumber} {kinds : List ℕ} (xs : List Float) {code : ℕ}
     where
       by : Dec (code ≡ 0) → lengthCode code m (length xs) ≡ phaseCode number kinds (length xs)
       by (yes z) = rw (z, a .known z, kinds-good number kinds code m read a z)
-      by (no h) = rw (ne-eqb code 0 h) (a .refusal ∙ layout-refused number kinds (length xs) (λ z. h (a .refusal ∙ z)))
+      by (no h) =
+          rw (ne-eqb code 0 h) (by-refusal number kinds code m read a (λ k c. c ≡ phaseCode k kinds (length xs)) refl (λ k g. rw g) h)
 
   pub refused : {r : PilotAnswer} → (n ≡ 0 → ⊥) → Nothing (Refused n) r → PhaseDetected number kinds xs r
   refused h r = refused-by number kinds xs code-is h r

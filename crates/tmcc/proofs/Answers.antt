@@ -1,7 +1,6 @@
 -- What the tests on the way to a return make of the definition of `tmcc_soft`.
 -- Assumes nothing.
 use Prim.Native.Nat.{ℕ, _*_, _≤_, _<_}
-use mathlib.Core.Bool.{Bool, true, false}
 use mathlib.Core.List.{List}
 use mathlib.Core.Path.{_≡_, refl, ap, _∙_}
 use borrow.Author.Tests.{eq-eqb, ne-eqb, le-leb, lt-leb}
@@ -9,11 +8,9 @@ use lib.ListN.{length}
 use lib.Ieee.{Float}
 use Rattle.params.specs.declared.Mode.{Mode}
 use Rattle.params.specs.declared.ModeNumber.{ModeNumber}
-use Rattle.params.specs.declared.ModeNumber.the-variants.{Known, Unknown}
 use Rattle.params.specs.Params.{totalCarriers}
-use Rattle.frame.specs.Operations.{areKinds, layoutCode}
 use Rattle.frame.specs.Inner.{AcceptedLayout}
-use Rattle.frame.specs.Answers.{kinds-good}
+use Rattle.frame.specs.Answers.{kinds-good, by-refusal}
 use Rattle.tmcc.specs.declared.SoftTmcc.{SoftTmcc}
 use Rattle.tmcc.specs.declared.SoftTmcc.the-variants.{Value, Refused}
 use Rattle.tmcc.specs.Tmcc.{softValue, twoSpectraCode, softCode, softAnswer, softNumber, SoftTold}
@@ -26,16 +23,9 @@ told number kinds xs filter r e = record { number = ap softNumber e ∙ soft-num
 module _ (number : ModeNumber) (kinds : List ℕ) (code : ℕ) (m : Mode) (read : List ℕ) (a : AcceptedLayout number kinds code m read)
     (xs : List Float) (filter : ℕ) where
   pub refused-layout : (code ≡ 0 → ⊥) → SoftTold number kinds xs filter (Refused code)
-  unfolding layoutCode twoSpectraCode softCode softAnswer
-  refused-layout h = told _ _ _ _ _ (by number (a .refusal))
-    where
-      tested : (k : Mode) (good : Bool) → areKinds kinds ≡ good → code ≡ layoutCode (Known k) kinds → Refused code ≡ softAnswer (Known k) kinds xs filter
-      tested k true g e = absurd (h (rw g at e))
-      tested k false g e = rw g (ap Refused (rw g at e))
-
-      by : (n : ModeNumber) → code ≡ layoutCode n kinds → Refused code ≡ softAnswer n kinds xs filter
-      by Unknown e = ap Refused e
-      by (Known k) e = tested k (areKinds kinds) refl e
+  unfolding twoSpectraCode softCode softAnswer
+  refused-layout =
+      by-refusal number kinds code m read a (λ n c. SoftTold n kinds xs filter (Refused c)) (told _ _ _ _ _ refl) (λ k g. told _ _ _ _ _ (rw g))
 
   -- a layout that was accepted, of a band of k carriers
   module _ (z : code ≡ 0) (k : ℕ) (band : k ≡ totalCarriers m) where

@@ -1,6 +1,5 @@
 -- `carrier_role::carrier_role` meets its contract: each return is the case of the definition that the tests on the way decide.
 -- Assumes nothing.
-use native.Mathlib.Omega.{arith}
 use borrow.Author.Needs.{needs}
 use Rattle.carrier_role.proofs.Answers.{refused-layout, refused-phase, refused-carrier, answered}
 use Rattle.carrier_role.proofs.carrier_role.Statement.{statement}
