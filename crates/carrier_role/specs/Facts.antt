@@ -7,7 +7,7 @@ use mathlib.Core.Path.{_≡_, refl, sym, ap, _∙_}
 use native.Mathlib.Omega.{arith}
 use borrow.Author.Tests.{lt-ltb, eq-eqb}
 use lib.Dec.{ltb, lit<}
-use lib.ListN.{getD}
+use lib.ListN.{getD, length}
 use Rattle.lists.specs.Refusals.{passed, numbered}
 use Rattle.params.specs.declared.Mode.{Mode}
 use Rattle.params.specs.declared.ModeNumber.{ModeNumber}
@@ -15,7 +15,8 @@ use Rattle.params.specs.declared.ModeNumber.the-variants.{Known, Unknown}
 use Rattle.params.specs.Params.{totalCarriers}
 use Rattle.frame.specs.Roles.{bandRoles, roleAt, wide}
 use Rattle.frame.specs.Operations.{areKinds, layoutMode, symbolCode, symbolLeaves, RoleMap}
-use Rattle.frame.specs.OneRole.{wide-size, map-says}
+use Rattle.frame.specs.Rules.{bandSize}
+use Rattle.frame.specs.OneRole.{band-length, wide-size, map-says}
 use Rattle.carrier_role.specs.declared.RoleAnswer.{RoleAnswer}
 use Rattle.carrier_role.specs.declared.RoleAnswer.the-variants.{Role, Refused}
 use Rattle.carrier_role.specs.CarrierRole.{roleCode, roleAnswer, roleNumber, roleGiven, RoleTold}
@@ -33,6 +34,7 @@ role-told mode phase kinds k r e = record { number = ap roleNumber e ∙ role-nu
 -- ---- the role map: `left` is what it leaves, r the answer for carrier k
 pub record ByteOfMap (left : List ℕ) (k : ℕ) (r : RoleAnswer) : Type 0 where
   pub accepted : roleNumber r ≡ 0
+  pub inside : k < length left
   pub byte : (lent : ℕ) → roleGiven r lent ≡ getD left k 0
 
 module _ {phase : ℕ} {kinds out left : List ℕ} where
@@ -49,11 +51,16 @@ module _ {phase : ℕ} {kinds out left : List ℕ} where
         let phase-passed = passed (ltb phase 4) 3 _ (lit< tt) (kinds-passed .rest) in
         told .answer ∙ rw (kinds-passed .first, phase-passed .first, lt-ltb k (totalCarriers m) h)
 
+    -- document 02's words: it equals byte k of the role map for every accepted input
     pub byte-of-map : (mode : ModeNumber) → RoleMap mode phase kinds out 0 left → k < totalCarriers (layoutMode mode)
         → RoleTold mode phase kinds k r → ByteOfMap left k r
     unfolding symbolCode layoutMode
     byte-of-map Unknown map h told = absurd (omega (arith, map .code))
     byte-of-map (Known m) map h told =
         let role = role-answered m map h told in
-        let says = map-says m phase (wide kinds) k (rw (wide-size m kinds) h) in
-        record { accepted = ap roleNumber role; byte = λ lent. ap (λ z. roleGiven z lent) role ∙ rw (roles-left m map) (sym says) }
+        let in-band : k < bandSize m (wide kinds) = rw (wide-size m kinds) h in
+        record {
+          accepted = ap roleNumber role;
+          inside = rw (roles-left m map, band-length m phase (wide kinds)) in-band;
+          byte = λ lent. ap (λ z. roleGiven z lent) role ∙ rw (roles-left m map) (sym (map-says m phase (wide kinds) k in-band));
+        }

@@ -90,12 +90,16 @@ impl Options {
             spread,
             ..
         } = self.plan;
+        let layouts = match spread {
+            1 => "all layouts".to_string(),
+            _ => format!("one layout in {spread}"),
+        };
         let of_parts = [
             (
                 "layout",
                 format!(
                     ", {calls} random calls of each operation of the layout (of the carrier role \
-                     five times as many, and every carrier of one layout in {spread})"
+                     five times as many, and every carrier of {layouts})"
                 ),
             ),
             (
