@@ -51,17 +51,17 @@ behind low (x ∷ xs) h (suc i) l = behind (suc x) xs (h .1) i (le-of-suc-le-suc
 
 -- the walk through the list up to entry i: what was passed by is not a
 module _ (a : ℕ) (xs : List ℕ) where
-  abbrev pub Passed : ℕ → Type 0
-  Passed i = memb a xs ≡ memb a (drop i xs)
+  abbrev pub PassedBy : ℕ → Type 0
+  PassedBy i = memb a xs ≡ memb a (drop i xs)
 
-  pub passed-on : (i : ℕ) → i < length xs → getD xs i 0 < a → Passed i → Passed (i + 1)
-  passed-on i h l p = p ∙ rw (drop-cons xs i 0 h, ne-eqb (getD xs i 0) a (λ e. omega arith), add-one)
+  pub search-goes-on : (i : ℕ) → i < length xs → getD xs i 0 < a → PassedBy i → PassedBy (i + 1)
+  search-goes-on i h l p = p ∙ rw (drop-cons xs i 0 h, ne-eqb (getD xs i 0) a (λ e. omega arith), add-one)
 
-  pub passed-all : (i : ℕ) → length xs ≤ i → Passed i → false ≡ memb a xs
-  passed-all i h p = rw p (rw (drop-of-length-le xs h))
+  pub search-ends : (i : ℕ) → length xs ≤ i → PassedBy i → false ≡ memb a xs
+  search-ends i h p = rw p (rw (drop-of-length-le xs h))
 
-  pub decided : (i : ℕ) → Ascending xs → i < length xs → a ≤ getD xs i 0 → Passed i → eqb (getD xs i 0) a ≡ memb a xs
-  decided i up h l p = rw (p, drop-cons xs i 0 h) (by (eqb (getD xs i 0) a) refl)
+  pub search-stops : (i : ℕ) → Ascending xs → i < length xs → a ≤ getD xs i 0 → PassedBy i → eqb (getD xs i 0) a ≡ memb a xs
+  search-stops i up h l p = rw (p, drop-cons xs i 0 h) (by (eqb (getD xs i 0) a) refl)
     where
       by : (b : Bool) → eqb (getD xs i 0) a ≡ b → b ≡ (b || memb a (drop (suc i) xs))
       by true e = refl

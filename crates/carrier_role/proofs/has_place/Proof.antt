@@ -9,7 +9,7 @@ use lib.Dec.{eqb}
 use lib.ListN.{length, take, getD}
 use lib.Seq.{length-take-le, getD-take}
 use Rattle.lists.specs.Tests.{memb}
-use Rattle.lists.specs.Search.{Passed, passed-on, passed-all, decided}
+use Rattle.lists.specs.Search.{PassedBy, search-goes-on, search-ends, search-stops}
 use Rattle.tables.specs.declared.Positions.{Positions}
 use Rattle.tables.specs.Fronts.{front}
 use Rattle.carrier_role.specs.Inner.{Searchable}
@@ -17,25 +17,25 @@ use Rattle.carrier_role.proofs.has_place.Statement.{statement}
 use Rattle.carrier_role.proofs.has_place.Tie as tie
 
 -- the laws of the search, of the entries that the code reads
-module _ (row : Positions) (ok : Searchable row) (all : length (row .places) ≡ 20) (a i : ℕ) (p : Passed a (front row) i) where
+module _ (row : Positions) (ok : Searchable row) (all : length (row .places) ≡ 20) (a i : ℕ) (p : PassedBy a (front row) i) where
   long : length (front row) ≡ row .count
   long = length-take-le (row .count) (row .places) (omega (arith, ok .count))
 
   none : row .count ≤ i → false ≡ memb a (front row)
-  none h = passed-all a (front row) i (rw long h) p
+  none h = search-ends a (front row) i (rw long h) p
 
   module _ (h : i < row .count) where
     entry : getD (front row) i 0 ≡ getD (row .places) i 0
     entry = getD-take (row .count) (row .places) i 0 h
 
-    next : getD (row .places) i 0 < a → Passed a (front row) (i + 1)
-    next l = passed-on a (front row) i (rw long h) (rw entry l) p
+    next : getD (row .places) i 0 < a → PassedBy a (front row) (i + 1)
+    next l = search-goes-on a (front row) i (rw long h) (rw entry l) p
 
     stop : a ≤ getD (row .places) i 0 → eqb (getD (row .places) i 0) a ≡ memb a (front row)
-    stop l = ap (λ (z : ℕ). eqb z a) (sym entry) ∙ decided a (front row) i (ok .ascending) (rw long h) (rw entry l) p
+    stop l = ap (λ (z : ℕ). eqb z a) (sym entry) ∙ search-stops a (front row) i (ok .ascending) (rw long h) (rw entry l) p
 
 abbrev Inv-loop : tie.InvT-loop
-Inv-loop places n wanted i₀ i = (i ≤ n) × Passed wanted (take n places) i
+Inv-loop places n wanted i₀ i = (i ≤ n) × PassedBy wanted (take n places) i
 
 abbrev μ-loop : tie.MeasureT-loop
 μ-loop places n wanted i₀ i = n - i
