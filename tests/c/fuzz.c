@@ -382,10 +382,11 @@ static void role_map(struct bytes *in)
     }
 }
 
-/* Byte k of the role map. */
+/* Byte k of the role map; no role where the map is refused. */
 static uint8_t role_in_map(uint8_t mode, uint8_t phase, struct codes kinds, size_t k)
 {
     static uint8_t map[SILLURWY_TOTAL_CARRIERS(3)];
+    map[k] = UINT8_MAX;
     sillurwy_role_map(mode, phase, kinds.at, kinds.len, map, SILLURWY_TOTAL_CARRIERS(mode));
     return map[k];
 }

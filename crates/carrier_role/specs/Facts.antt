@@ -27,10 +27,6 @@ unfolding roleAnswer
 role-number Unknown phase kinds k = refl
 role-number (Known m) phase kinds k = numbered roleNumber Refused (roleCode (Known m) phase kinds k) _ refl (λ c. refl)
 
-pub role-told : (mode : ModeNumber) (phase : ℕ) (kinds : List ℕ) (k : ℕ) (r : RoleAnswer) → r ≡ roleAnswer mode phase kinds k
-    → RoleTold mode phase kinds k r
-role-told mode phase kinds k r e = record { number = ap roleNumber e ∙ role-number mode phase kinds k; answer = e }
-
 -- ---- the role map: `left` is what it leaves, r the answer for carrier k
 pub record ByteOfMap (left : List ℕ) (k : ℕ) (r : RoleAnswer) : Type 0 where
   pub accepted : roleNumber r ≡ 0
@@ -58,9 +54,9 @@ module _ {phase : ℕ} {kinds out left : List ℕ} where
     byte-of-map Unknown map h told = absurd (omega (arith, map .code))
     byte-of-map (Known m) map h told =
         let role = role-answered m map h told in
-        let in-band : k < bandSize m (wide kinds) = rw (wide-size m kinds) h in
+        let in-map : k < bandSize m (wide kinds) = rw (wide-size m kinds) h in
         record {
           accepted = ap roleNumber role;
-          inside = rw (roles-left m map, band-length m phase (wide kinds)) in-band;
-          byte = λ lent. ap (λ z. roleGiven z lent) role ∙ rw (roles-left m map) (sym (map-says m phase (wide kinds) k in-band));
+          inside = rw (roles-left m map, band-length m phase (wide kinds)) in-map;
+          byte = λ lent. ap (λ z. roleGiven z lent) role ∙ rw (roles-left m map) (sym (map-says m phase (wide kinds) k in-map));
         }

@@ -12,7 +12,7 @@ use Rattle.tables.specs.Fronts.{front}
 use Rattle.frame.specs.declared.CarrierRole.{CarrierRole}
 use Rattle.frame.specs.Roles.{firstClaim}
 
--- a row of the tables whose entries ascend
+-- a row that has room for its entries, which ascend
 pub record Searchable (row : Positions) : Type 0 where
   pub count : row .count ≤ 20
   pub ascending : Ascending (front row)

@@ -31,9 +31,9 @@ fn has_place(row: Positions, p: SegmentPlace) -> bool
     let wanted = p.0;
     let mut i: usize = 0;
     while i < n {
-        let place = places[i] as usize;
-        if wanted <= place {
-            return place == wanted;
+        let entry = places[i] as usize;
+        if wanted <= entry {
+            return entry == wanted;
         }
         i += 1;
     }
@@ -100,8 +100,8 @@ fn band_role(layout: FrameLayout, phase: u8, k: BandCarrier) -> CarrierRole
         return CarrierRole::EdgeCp;
     }
     let at = ofdm::carrier_place(mode, k);
-    let place = at.band;
-    let p = at.segment;
+    let place = at.place;
+    let p = at.p;
     let seg = ofdm::segment_at_position(place);
     place_role(mode, seg, layout.kind(seg), phase, p)
 }
@@ -127,11 +127,11 @@ pub fn carrier_role(mode: u8, phase: u8, kinds: &[u8], k: BandCarrier) -> RoleAn
     let layout = new.layout;
     let m = layout.mode;
     let k_total = m.total_carriers();
-    let number = k.0;
+    let carrier = k.0;
     if 3 < phase {
         return RoleAnswer::Refused(3);
     }
-    if k_total <= number {
+    if k_total <= carrier {
         return RoleAnswer::Refused(4);
     }
     RoleAnswer::Role(band_role(layout, phase, k))

@@ -53,13 +53,15 @@ segmentRoles mode phase s = upTo (λ p. roleByte (placeRole mode s phase p)) (ca
 unfoldable pub bandRoles : Mode → ℕ → List OfdmSegment → List ℕ
 bandRoles mode phase segments = joined (segmentRoles mode phase) segments ++ (roleByte EdgeCp ∷ [])
 
--- one carrier of a band: the segment at a place, the edge above the last segment, and the role of carrier k
+-- the segment at a place of a band; no carrier of the band asks for a place above the last
 abbrev pub segmentIn : List OfdmSegment → ℕ → OfdmSegment
 segmentIn segments place = getD segments place (record { row = 0; kind = Coherent })
 
+-- the edge lies above the last segment
 abbrev pub edgeOf : Mode → List OfdmSegment → ℕ
 edgeOf mode segments = firstCarrier mode (length segments)
 
+-- the role of carrier k of a band
 abbrev pub roleAt : Mode → ℕ → List OfdmSegment → ℕ → CarrierRole
 roleAt mode phase segments k =
     cond (eqb k (edgeOf mode segments)) EdgeCp (placeRole mode (segmentIn segments (bandPlace mode k)) phase (segmentPlace mode k))

@@ -43,7 +43,7 @@ taken r code x y z e n h = rw (sym e, eq-eqb r 0 n) h
 pub bin-told : {mode : ModeNumber} {k : ℕ} {a : BinLookup} (lent : ℕ) → a ≡ binLookup mode k → CarrierBin mode k lent (binNumber a) (binGiven a lent)
 bin-told lent e = record { code = ap binNumber e; leaves = ap (λ z. binGiven z lent) e }
 
--- the role's byte is a value of its own
+-- the byte of a role, which the code works out, is what the answer gives
 pub role-told : {a b : RoleAnswer} (lent : ℕ) {role : ℕ} → a ≡ b → role ≡ roleGiven a lent → RoleLent b lent (roleNumber a) role
 role-told lent e g = record { code = ap roleNumber e; leaves = g ∙ ap (λ z. roleGiven z lent) e }
 

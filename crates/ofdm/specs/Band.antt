@@ -46,10 +46,10 @@ segmentPlace m k = k % carriersPerSegment m
 
 -- what `carrier_place` gives for a carrier below the edge
 pub record Placed (m : Mode) (k : ℕ) (r : CarrierPlace) : Type 0 where
-  pub band : r .band .0 ≡ bandPlace m k
-  pub segment : r .segment .0 ≡ segmentPlace m k
-  pub band-below : r .band .0 < 13
-  pub segment-below : r .segment .0 < carriersPerSegment m
+  pub place : r .place .0 ≡ bandPlace m k
+  pub p : r .p .0 ≡ segmentPlace m k
+  pub place-below : r .place .0 < 13
+  pub p-below : r .p .0 < carriersPerSegment m
 
 -- the centre carrier, which has bin 0
 abbrev pub centerCarrier : Mode → ℕ

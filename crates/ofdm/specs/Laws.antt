@@ -59,12 +59,12 @@ pub place-of-carrier : (m : Mode) (place p : ℕ) → p < carriersPerSegment m
 place-of-carrier m place p h = (digits-div place h, digits-mod place h)
 
 -- so `carrier_place`, which gives r, and `band_carrier` do
-pub carrier-again : {m : Mode} {k : ℕ} {r : CarrierPlace} → Placed m k r → carrierAt m (r .band .0) (r .segment .0) ≡ k
-carrier-again {m} {k} w = rw (w .band, w .segment) (carrier-of-place m k)
+pub carrier-again : {m : Mode} {k : ℕ} {r : CarrierPlace} → Placed m k r → carrierAt m (r .place .0) (r .p .0) ≡ k
+carrier-again {m} {k} w = rw (w .place, w .p) (carrier-of-place m k)
 
 pub place-again : {m : Mode} (place p : ℕ) {r : CarrierPlace} → p < carriersPerSegment m → Placed m (carrierAt m place p) r
-    → (r .band .0 ≡ place) × (r .segment .0 ≡ p)
-place-again {m} place p h w = let e = place-of-carrier m place p h in (w .band ∙ e .0, w .segment ∙ e .1)
+    → (r .place .0 ≡ place) × (r .p .0 ≡ p)
+place-again {m} place p h w = let e = place-of-carrier m place p h in (w .place ∙ e .0, w .p ∙ e .1)
 
 -- from the centre up, a carrier's bin is its distance from the centre
 pub bin-above : (m : Mode) (k : ℕ) → centerCarrier m ≤ k → k < totalCarriers m → binOf m k ≡ k - centerCarrier m

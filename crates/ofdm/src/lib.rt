@@ -63,8 +63,8 @@ pub fn band_carrier(mode: Mode, place: BandPlace, p: SegmentPlace) -> BandCarrie
 
 // Where a carrier is: its segment's place in the band, and its own place in that segment.
 pub struct CarrierPlace {
-    pub band: BandPlace,
-    pub segment: SegmentPlace,
+    pub place: BandPlace,
+    pub p: SegmentPlace,
 }
 
 // The way back from `band_carrier`, for a carrier below the edge.
@@ -74,8 +74,8 @@ pub fn carrier_place(mode: Mode, k: BandCarrier) -> CarrierPlace
 {
     let c = mode.carriers_per_segment();
     CarrierPlace {
-        band: BandPlace(k.0 / c),
-        segment: SegmentPlace(k.0 % c),
+        place: BandPlace(k.0 / c),
+        p: SegmentPlace(k.0 % c),
     }
 }
 

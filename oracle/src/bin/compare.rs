@@ -13,7 +13,7 @@ use std::time::Instant;
 const USAGE: &str = "\
 compare: the proved port beside the Rust
 
-  --quick     fewer random floats and captures, and one by one the carriers of every 17th layout
+  --quick     fewer random floats and captures, and the single carriers of every 17th layout
               instead of all; everything else the same
   --seed N    seed of the random calls, the random floats and the damaged lines (default 1)
   --cases N   random calls of each operation (default 4096); of the carrier role five times as

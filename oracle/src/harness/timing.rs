@@ -80,15 +80,15 @@ fn per_call(calls: usize, call: &mut impl FnMut(usize)) -> f64 {
 
 /// The head of the table.
 pub const HEAD: &str = "\
-| operation | the Rust's part | port, ns a call | Rust, ns a call | port / Rust |
+| operation | beside | port, ns a call | that, ns a call | port / that |
 |---|---|---:|---:|---:|";
 
-/// A row of the table: the port beside the Rust.
+/// A row of the table: the port beside the Rust, or beside another way to the same answer.
 #[derive(Debug)]
 pub struct Row {
     /// The operation and what it is given.
     pub operation: String,
-    /// What of the Rust is timed beside it.
+    /// What is timed beside it: a part of the Rust, where nothing else is said.
     pub part: &'static str,
     /// How long both take.
     pub times: Times,

@@ -310,8 +310,8 @@ fn stored_carriers(rng: &mut Rng, mode: Mode, map: &[u8]) -> BTreeSet<usize> {
     carriers
 }
 
-/// Carriers of every mode and phase twice; and refused by each number, while those that come later are
-/// bad too.
+/// Carriers of every mode and phase twice; and refused by each number, with what is tested later bad too
+/// in some calls, and good in others.
 fn stored(rng: &mut Rng) -> Vec<Record> {
     let mut records = Vec::new();
     for (mode, phase, choice) in stored_layouts(rng) {

@@ -97,14 +97,14 @@ fn changed(call: (u8, u8, &[u8], usize), role: &mut u8, change: fn(u8) -> u8) ->
 
 #[test]
 fn wrong_places_are_found() {
-    let by_number: Port = |mode, phase, kinds, k, role| {
+    let place_as_number: Port = |mode, phase, kinds, k, role| {
         let lookup = Lookup {
             segment: |place| place,
             ..RIGHT
         };
         lookup.call(mode, phase, kinds, k, role)
     };
-    is_found::<CarrierRoleCall>("the segment's number taken for its place", by_number);
+    is_found::<CarrierRoleCall>("the place taken for the segment's number", place_as_number);
     let by_place: Port = |mode, phase, kinds, k, role| {
         let lookup = Lookup {
             kind: |place, _| place,
@@ -197,7 +197,7 @@ fn wrong_roles_are_found() {
 
 #[test]
 fn one_wrong_carrier_of_all_is_found() {
-    // What `compare --quick` meets, and a layout that is among it.
+    // `compare --quick` takes every 17th layout; this one is among them.
     let port: Port = |mode, phase, kinds, k, role| {
         let code = RIGHT.call(mode, phase, kinds, k, role);
         if (mode, phase, k) == (2, 3, 2000) && kinds == kind_bytes(0b1_0000_0010_0000) {

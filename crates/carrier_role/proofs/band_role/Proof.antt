@@ -76,7 +76,7 @@ returns-2 c =
     let s = e .before in
     let a = s .args in
     of-place (a .layout .mode) (a .layout .kinds) (a .phase) (a .k .0) _ (s .pre) (e .first-carrier .ensures) (at .before .if1 .left)
-    _ _ _ _ _ (at .carrier-place .ensures .band) (seg .segment-at-position .ensures .0) (at .carrier-place .ensures .segment) (kind .kind .ensures)
+    _ _ _ _ _ (at .carrier-place .ensures .place) (seg .segment-at-position .ensures .0) (at .carrier-place .ensures .p) (kind .kind .ensures)
     (c .place-role .ensures)
 
 pub band-role-spec : {M : Type 1} → statement M

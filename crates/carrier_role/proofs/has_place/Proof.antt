@@ -43,14 +43,14 @@ abbrev μ-loop : tie.MeasureT-loop
 loop-holds : tie.Need-loop-holds Inv-loop μ-loop
 loop-holds c = (search needs, refl)
 
-mul-place : tie.Need-mul-place Inv-loop μ-loop
-mul-place c = search needs
+mul-entry : tie.Need-mul-entry Inv-loop μ-loop
+mul-entry c = search needs
 
-array-read-place : tie.Need-array-read-place Inv-loop μ-loop
-array-read-place c = search needs
+array-read-entry : tie.Need-array-read-entry Inv-loop μ-loop
+array-read-entry c = search needs
 
-cast-place : tie.Need-cast-place Inv-loop μ-loop
-cast-place c = search needs
+cast-entry : tie.Need-cast-entry Inv-loop μ-loop
+cast-entry c = search needs
 
 returns : tie.Need-returns Inv-loop μ-loop
 returns c =
@@ -78,9 +78,9 @@ has-place-spec =
     Inv-loop
     μ-loop
     loop-holds
-    mul-place
-    array-read-place
-    cast-place
+    mul-entry
+    array-read-entry
+    cast-entry
     returns
     add-i
     loop-less

@@ -20,10 +20,10 @@ returns c =
     let s = c .before .before .before in
     let m = s .args .mode in
     record {
-      band = simp size;
-      segment = simp size;
-      band-below = simp size (in-band m 13 (s .args .k .0) (s .pre));
-      segment-below = simp size (in-segment m (s .args .k .0));
+      place = simp size;
+      p = simp size;
+      place-below = simp size (in-band m 13 (s .args .k .0) (s .pre));
+      p-below = simp size (in-segment m (s .args .k .0));
     }
 
 pub carrier-place-spec : {M : Type 1} → statement M
