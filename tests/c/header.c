@@ -32,8 +32,9 @@ HOLDS(tmcc, SILLURWY_TMCC == 3);
 HOLDS(ac1, SILLURWY_AC1 == 4);
 HOLDS(ac2, SILLURWY_AC2 == 5);
 HOLDS(edge, SILLURWY_EDGE == 6);
-/* The enum can be named although a function has the same name. */
-HOLDS(role_and_function, sizeof(enum sillurwy_carrier_role) > 0 && sizeof(&sillurwy_carrier_role) > 0);
+/* Both can be named, although they share a name. */
+HOLDS(role_enum, sizeof(enum sillurwy_carrier_role) > 0);
+HOLDS(role_function, sizeof(&sillurwy_carrier_role) > 0);
 HOLDS(filter_coherent, SILLURWY_FILTER_COHERENT == 0);
 HOLDS(filter_differential, SILLURWY_FILTER_DIFFERENTIAL == 1);
 HOLDS(filter_all, SILLURWY_FILTER_ALL == 2);
