@@ -38,10 +38,9 @@ use Rattle.guess.specs.Changed.{changed-guess}
 use Rattle.guess.specs.Facts.{search-number}
 use Rattle.guess.specs.declared.GuardSearch.{GuardSearch}
 use Rattle.guess.specs.declared.GuardSearch.the-variants as search
-use Rattle.winner.specs.Winner.{leadOf}
 use Rattle.pilot_phase.specs.PilotPhase.{phaseCode}
 use Rattle.pilot_phase.specs.Facts.{phase-number}
-use Rattle.pilot_phase.specs.Changed.{changed-phase, changed-counts}
+use Rattle.pilot_phase.specs.Changed.{changed-phase, changed-counts, changed-lead}
 use Rattle.segment_kinds.specs.SegmentKinds.{kindsCode, kindsLeaves, kindsAnswer, scoresAnswer, detectedKinds, kindScores}
 use Rattle.acquire.specs.Demand3.{RefusedAlike, Proviso, ShiftKept, KindsKept, PhaseKept, GuessKept, Demand3}
 
@@ -179,7 +178,7 @@ phase-kept c mode kinds xs ys A h =
     record {
       phase = changed-phase c mode kinds xs ys A h;
       counts = changed-counts c mode kinds xs ys A h;
-      lead = ap leadOf (changed-counts c mode kinds xs ys A h);
+      lead = changed-lead c mode kinds xs ys A h;
     }
 
 -- ---- the guess

@@ -31,8 +31,7 @@ use Rattle.shift.specs.Shift.{movedBin, pattern, shiftNumber, shiftLeaves, shif
 use Rattle.shift.specs.Moves.{InRange, BeatsAll, MovedRound}
 use Rattle.guess.specs.Guess.{searchNumber, guessAnswer}
 use Rattle.guess.specs.Louder.{louder}
-use Rattle.winner.specs.Winner.{leadOf}
-use Rattle.pilot_phase.specs.PilotPhase.{phaseNumber, phaseAnswer, countsAnswer}
+use Rattle.pilot_phase.specs.PilotPhase.{phaseNumber, phaseAnswer, countsAnswer, leadAnswer}
 use Rattle.segment_kinds.specs.SegmentKinds.{kindsCode, kindsLeaves, kindsAnswer, scoresAnswer}
 
 -- ---- refusals: the answer for ys has the number of the answer for xs, whatever the two hold; `mode` is any number, also one that is no mode.
@@ -70,7 +69,7 @@ pub record KindsKept (mode : Mode) (xs ys old : List Float) : Type 0 where
 pub record PhaseKept (mode : Mode) (kinds : List ℕ) (xs ys : List Float) : Type 0 where
   pub phase : phaseAnswer (Known mode) kinds ys ≡ phaseAnswer (Known mode) kinds xs
   pub counts : countsAnswer (Known mode) kinds ys ≡ countsAnswer (Known mode) kinds xs
-  pub lead : leadOf (countsAnswer (Known mode) kinds ys) ≡ leadOf (countsAnswer (Known mode) kinds xs)
+  pub lead : leadAnswer (Known mode) kinds ys ≡ leadAnswer (Known mode) kinds xs
 
 -- ---- the guess: samples, negated, turned and amplified. Found or not, mode, guard, offset and metric are the same, and both parts of the
 -- correlation are multiplied by the gain twice

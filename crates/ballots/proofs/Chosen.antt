@@ -1,7 +1,7 @@
--- What `choice` keeps: the best so far, and the phases ahead, come to the choice.
+-- What `ballot_of` keeps: the best so far, and the phases ahead, come to the choice; and whether a phase so far has energy.
 -- Assumes nothing.
-use Prim.Native.Nat.{ℕ, suc, _+_, _-_, _≤_, _<_}
-use mathlib.Core.Bool.{true, false, cond}
+use Prim.Native.Nat.{ℕ, zero, suc, _+_, _-_, _≤_, _<_}
+use mathlib.Core.Bool.{Bool, true, false, cond, _||_}
 use mathlib.Core.Path.{_≡_, refl}
 use native.Mathlib.Numerals.{add-one}
 use native.Mathlib.Omega.{arith}
@@ -34,3 +34,19 @@ module _ {f : ℕ → Float} {all best : ℕ} {metric : Float} {p : ℕ} (a : Ah
   pub done : 4 ≤ p → best ≡ all
   unfolding chooseFrom
   done h = let z : 4 - p ≡ 0 = omega arith in rw z at (a .same)
+
+-- whether one of the phases below p has energy
+abbrev someBelow : (ℕ → Bool) → ℕ → Bool
+someBelow has zero = false
+someBelow has (suc p) = someBelow has p || has p
+
+-- `heard` says so
+pub record HeardTo (has : ℕ → Bool) (heard : Bool) (p : ℕ) : Type 0 where
+  pub some : heard ≡ someBelow has p
+
+module _ {has : ℕ → Bool} {heard : Bool} {p : ℕ} (s : HeardTo has heard p) where
+  pub heard-more : {m : Bool} → m ≡ has p → HeardTo has (heard || m) (p + 1)
+  heard-more e = record { some = rw (add-one p, s .some, e) }
+
+  pub heard-all : p ≡ 4 → heard ≡ (has 0 || has 1 || has 2 || has 3)
+  heard-all z = rw z at (s .some)

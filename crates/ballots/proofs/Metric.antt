@@ -26,7 +26,7 @@ use Rattle.prbs.specs.Signs.{bandSigns}
 use Rattle.prbs.specs.Buffered.{signs-length}
 use Rattle.ballots.specs.declared.Run.{Run}
 use Rattle.ballots.specs.Ballots.{pilots, twelveApart, pilotPairs, productSum, energySum, phaseMetric}
-use Rattle.ballots.specs.Inner.{twelfths, Parted, Walked, Walkable, Walks, Spectrum}
+use Rattle.ballots.specs.Inner.{twelfths, Parted, Walked, Walkable, Walks, Spectrum, CoherenceOf}
 use Rattle.ballots.specs.Pilots.{twelves}
 use Rattle.ballots.proofs.BySegment.{segmentPilots, pilots-by-segment, coherent-pilots, differential-pilots}
 use Rattle.ballots.proofs.Walking.{walk-apart}
@@ -120,10 +120,13 @@ module _ {mode : Mode} {kinds : List ℕ} {y : List Float} {phase c : ℕ} where
       energy : run .energy ≡ energySum mode (pairAt y) ks
       energy = rw all at (w .walked .energy)
 
-      pub some-energy : lt (plusZero binary32) (run .energy) ≡ true → div binary32 (run .sum .re) (run .energy) ≡ phaseMetric mode kinds (pairAt y) phase
+      pub some-energy : lt (plusZero binary32) (run .energy) ≡ true
+          → CoherenceOf mode kinds (pairAt y) phase (record { metric = div binary32 (run .sum .re) (run .energy); heard = true })
       unfolding phaseMetric
-      some-energy t = rw (sym energy, t) (ap (λ (z : Pair). div binary32 (z .re) (run .energy)) sum)
+      some-energy t =
+          record { metric = rw (sym energy, t) (ap (λ (z : Pair). div binary32 (z .re) (run .energy)) sum); heard = rw (sym energy, t) }
 
-      pub no-energy : lt (plusZero binary32) (run .energy) ≡ false → plusZero binary32 ≡ phaseMetric mode kinds (pairAt y) phase
+      pub no-energy : lt (plusZero binary32) (run .energy) ≡ false
+          → CoherenceOf mode kinds (pairAt y) phase (record { metric = plusZero binary32; heard = false })
       unfolding phaseMetric
-      no-energy t = rw (sym energy, t)
+      no-energy t = record { metric = rw (sym energy, t); heard = rw (sym energy, t) }

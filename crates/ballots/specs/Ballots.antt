@@ -19,6 +19,7 @@ use Rattle.spectra.specs.Spectra.{pairAt, spectraIn}
 use Rattle.prbs.specs.Signs.{bandSigns}
 use Rattle.pilots.specs.Pilots.{pilotValue}
 use Rattle.frame.specs.Roles.{bandRoles, wide}
+use Rattle.ballots.specs.declared.Ballot.{Ballot}
 
 -- ---- the scattered pilots of a phase, ascending: the carriers whose role byte is 1
 unfoldable pub pilots : Mode → List ℕ → ℕ → List ℕ
@@ -77,13 +78,7 @@ minusOne = ofBits binary32 0xbf80_0000
 unfoldable pub choiceOf : Mode → List ℕ → (ℕ → Pair) → ℕ
 choiceOf mode kinds y = chooseFrom (phaseMetric mode kinds y) (record { phase = 0; metric = minusOne }) 0 4 .phase
 
--- ---- the ballot of a symbol
-pub record Ballot : Type 0 where
-  -- the phase with the greatest metric, as the symbol itself has it
-  pub choice : ℕ
-  -- whether the pilots of at least one of the four phases have energy
-  pub heard : Bool
-
+-- ---- the ballot of a symbol: its choice, and whether it was heard, which it is where the pilots of at least one of the four phases have energy
 unfoldable pub ballotOf : Mode → List ℕ → (ℕ → Pair) → Ballot
 ballotOf mode kinds y =
     let has = hasEnergy mode kinds y in
@@ -95,6 +90,10 @@ spectrumAt len xs j k = pairAt xs (j * len + k)
 
 abbrev pub ballotAt : Mode → List ℕ → List Float → ℕ → Ballot
 ballotAt mode kinds xs j = ballotOf mode kinds (spectrumAt (totalCarriers mode) xs j)
+
+-- whether symbol j was heard
+abbrev pub heardAt : Mode → List ℕ → List Float → ℕ → Bool
+heardAt mode kinds xs j = ballotAt mode kinds xs j .heard
 
 -- one for each spectrum
 unfoldable pub ballots : Mode → List ℕ → List Float → List Ballot

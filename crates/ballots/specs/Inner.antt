@@ -16,7 +16,8 @@ use Rattle.prbs.specs.Signs.{bandSigns}
 use Rattle.pilots.specs.Pilots.{pilotValue}
 use Rattle.ballots.specs.declared.Pilot.{Pilot}
 use Rattle.ballots.specs.declared.Run.{Run}
-use Rattle.ballots.specs.Ballots.{pilots, twelveApart, timesPilot, productSum, energySum}
+use Rattle.ballots.specs.declared.Coherence.{Coherence}
+use Rattle.ballots.specs.Ballots.{pilots, twelveApart, timesPilot, productSum, energySum, hasEnergy, phaseMetric}
 
 -- count carriers from the lowest on, 12 apart
 abbrev pub twelfths : ℕ → ℕ → List ℕ
@@ -77,6 +78,11 @@ pub record Walks (s : Run) (y : List Float) (signs : List ℕ) (lowest count : �
 pub record Spectrum (mode : Mode) (n : ℕ) (signs : List ℕ) : Type 0 where
   pub floats : n ≡ 2 * totalCarriers mode
   pub signed : signs ≡ bandSigns mode
+
+-- how coherent the pilots of a phase are in the spectrum y, and whether they have energy
+pub record CoherenceOf (mode : Mode) (kinds : List ℕ) (y : ℕ → Pair) (phase : ℕ) (r : Coherence) : Type 0 where
+  pub metric : r .metric ≡ phaseMetric mode kinds y phase
+  pub heard : r .heard ≡ hasEnergy mode kinds y phase
 
 -- whether there are scattered pilots
 abbrev pub somePilots : Mode → List ℕ → Bool

@@ -6,8 +6,8 @@ ghost use Prim.Native.Nat.{_*_, _≤_, _<_};
 ghost use lib.ListN.{length};
 ghost use Rattle.complex.specs.Complex.{of32};
 ghost use Rattle.spectra.specs.Spectra.{pairAt};
-ghost use Rattle.ballots.specs.Ballots.{phaseMetric, choiceOf};
-ghost use Rattle.ballots.specs.Inner.{Parted, Sized, PilotAt, Joined, Walkable, Walks, Spectrum, somePilots};
+ghost use Rattle.ballots.specs.Ballots.{ballotOf};
+ghost use Rattle.ballots.specs.Inner.{Parted, Sized, PilotAt, Joined, Walkable, Walks, Spectrum, CoherenceOf, somePilots};
 use complex::C32;
 use frame::FrameLayout;
 use ofdm::BandCarrier;
@@ -31,6 +31,20 @@ pub struct Run {
 pub struct Pilot {
     pub value: C32,
     pub square: f64,
+}
+
+// How coherent the pilots of a phase are, and whether they have energy at all.
+pub struct Coherence {
+    pub metric: f32,
+    pub heard: bool,
+}
+
+// What a symbol has to say of the phase.
+pub struct Ballot {
+    // The phase with the greatest metric, as the symbol itself has it.
+    pub choice: u8,
+    // Whether the pilots of at least one of the four phases have energy.
+    pub heard: bool,
 }
 
 impl Run {
@@ -116,10 +130,10 @@ fn walk_segment(start: Run, y: &[f32], signs: &[u8], lowest: BandCarrier, count:
     run.join(pilot)
 }
 
-// How coherent the pilots of a phase are in the spectrum y.
-fn phase_metric(layout: FrameLayout, y: &[f32], signs: &[u8], phase: u8) -> f32
+// How coherent the pilots of a phase are in the spectrum y. A NaN is not above zero.
+fn phase_metric(layout: FrameLayout, y: &[f32], signs: &[u8], phase: u8) -> Coherence
     requires { ⌜ (phase < 4) × Spectrum (layout .mode) (length (now y)) (now signs) ⌝ }
-    ensures { λ r. ⌜ r ≡ phaseMetric (layout .mode) (layout .kinds) (pairAt (now (y .entry))) phase ⌝ }
+    ensures { λ r. ⌜ CoherenceOf (layout .mode) (layout .kinds) (pairAt (now (y .entry))) phase r ⌝ }
 {
     let mode = layout.mode;
     let c = mode.carriers_per_segment();
@@ -147,29 +161,40 @@ fn phase_metric(layout: FrameLayout, y: &[f32], signs: &[u8], phase: u8) -> f32
     }
     if run.energy > 0.0 {
         let sum = run.sum;
-        sum.re / run.energy
+        Coherence {
+            metric: sum.re / run.energy,
+            heard: true,
+        }
     } else {
-        0.0
+        Coherence {
+            metric: 0.0,
+            heard: false,
+        }
     }
 }
 
-// The first phase with the greatest metric in the spectrum y.
-pub fn choice(layout: FrameLayout, y: &[f32], signs: &[u8]) -> u8
+// The ballot of the spectrum y: the first phase with the greatest metric, and whether any has energy.
+pub fn ballot_of(layout: FrameLayout, y: &[f32], signs: &[u8]) -> Ballot
     requires { ⌜ Spectrum (layout .mode) (length (now y)) (now signs) ⌝ }
-    ensures { λ r. ⌜ r ≡ choiceOf (layout .mode) (layout .kinds) (pairAt (now (y .entry))) ⌝ }
+    ensures { λ r. ⌜ r ≡ ballotOf (layout .mode) (layout .kinds) (pairAt (now (y .entry))) ⌝ }
 {
     let mut best: u8 = 0;
     let mut metric = MINUS_ONE;
+    let mut heard = false;
     let mut phase: u8 = 0;
     while phase < 4 {
         let m = phase_metric(layout, y, signs, phase);
-        if m > metric {
+        if m.metric > metric {
             best = phase;
-            metric = m;
+            metric = m.metric;
         }
+        heard = heard | m.heard;
         phase += 1;
     }
-    best
+    Ballot {
+        choice: best,
+        heard: heard,
+    }
 }
 
 // Whether a segment is coherent, and so has scattered pilots.

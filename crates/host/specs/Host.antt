@@ -20,8 +20,7 @@ use Rattle.samples_needed.specs.Samples.{samplesNumber, samplesGiven}
 use Rattle.guess.specs.Guess.{searchNumber, foundGiven, guessGiven}
 use Rattle.tmcc.specs.declared.SoftTmcc.{SoftTmcc}
 use Rattle.tmcc.specs.Tmcc.{softNumber, softGiven}
-use Rattle.winner.specs.Winner.{leadOf}
-use Rattle.pilot_phase.specs.PilotPhase.{phaseAnswer, phaseNumber, pilotsGiven, phaseGiven, shareGiven, besideGiven, countsAnswer}
+use Rattle.pilot_phase.specs.PilotPhase.{phaseAnswer, phaseNumber, pilotsGiven, phaseGiven, shareGiven, besideGiven, countsAnswer, leadAnswer}
 use Rattle.frame_start.specs.declared.FrameStart.{FrameStart}
 use Rattle.frame_start.specs.FrameStart.{StartTold, startFound, startGiven, wordGiven}
 use Rattle.ratio.specs.declared.BinRatio.{BinRatio}
@@ -96,7 +95,7 @@ pub record PhaseLent (mode : ModeNumber) (kinds : List ℕ) (xs : List Float) (f
   pub phase : p' ≡ phaseGiven (phaseAnswer mode kinds xs) p
   pub share : s' ≡ shareGiven (phaseAnswer mode kinds xs) s
   pub counts : cs' ≡ besideGiven (phaseAnswer mode kinds xs) (countsAnswer mode kinds xs) cs
-  pub lead : l' ≡ besideGiven (phaseAnswer mode kinds xs) (leadOf (countsAnswer mode kinds xs)) l
+  pub lead : l' ≡ besideGiven (phaseAnswer mode kinds xs) (leadAnswer mode kinds xs) l
 
 -- ---- the frame start: s and w are lent for the start and its word's code. Nothing refuses, and any answer that may be told is one
 pub record StartLent (soft : List Float) (s w r f' s' w' : ℕ) : Type 0 where

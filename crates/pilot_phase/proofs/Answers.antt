@@ -22,40 +22,35 @@ use Rattle.frame.specs.Answers.{kinds-good, by-refusal}
 use Rattle.ballots.specs.Ballots.{pilots, ballots}
 use Rattle.ballots.specs.Facts.{ballots-length}
 use Rattle.ballots.specs.Inner.{somePilots}
-use Rattle.winner.specs.Winner.{nextTo, shareOf, leadOf}
+use Rattle.winner.specs.Winner.{shareOf, leadOf}
 use Rattle.winner.specs.Inner.{Won}
-use Rattle.winner.specs.Facts.{no-lead, next-below}
 use Rattle.pilot_phase.specs.declared.PilotPhase.the-variants.{NoScatteredPilots, Phase}
 use Rattle.pilot_phase.specs.declared.PhaseAnswer.{PhaseAnswer}
 use Rattle.pilot_phase.specs.declared.PhaseAnswer.the-variants.{Detected, Refused}
 use Rattle.pilot_phase.specs.declared.PilotAnswer.{PilotAnswer}
+use Rattle.pilot_phase.specs.declared.Votes.{Votes}
 use Rattle.pilot_phase.specs.PilotPhase.{votes, countOf, countsOf, phaseOf}
-use Rattle.pilot_phase.specs.PilotPhase.{phaseCode, detected, phaseAnswer, noCounts, countsAnswer, phaseNumber, PhaseDetected}
-use Rattle.pilot_phase.specs.Inner.{Whole, Counted, lengthCode, Nothing, Told, acceptedCounts, Accepted}
+use Rattle.pilot_phase.specs.PilotPhase.{phaseCode, detected, phaseAnswer, countsAnswer, leadAnswer, phaseNumber, PhaseDetected}
+use Rattle.pilot_phase.specs.Inner.{Whole, VotesOf, Counted, lengthCode, Nothing, Told, acceptedCounts, Accepted}
 use Rattle.pilot_phase.specs.Facts.{phase-number, counts-at}
 use Rattle.pilot_phase.proofs.Counting.{votes-few}
 
--- ---- what counts tell
--- no other phase has more votes
-pub lead-fits : {counts : List ℕ} {won next : ℕ} → Won counts won → next ≡ nextTo counts won → next ≤ getD counts won 0
-lead-fits {counts} v e = rw (e, v .won) (next-below counts)
-
-pub told : {counts : List ℕ} {n won next : ℕ} {share : Float} → Won counts won → share ≡ shareOf (getD counts won 0) n → next ≡ nextTo counts won
-    → Told counts n (record { answer = Detected (Phase won share); counts = counts; lead = getD counts won 0 - next })
-unfolding leadOf
-told v s e = record { answer = rw (s, v .won); same = refl; lead = rw (e, v .won) }
+-- ---- what votes tell
+pub told : {votes : Votes} {n won : ℕ} {share : Float} {lead : ℕ} → Won (votes .all) won → share ≡ shareOf (getD (votes .all) won 0) n
+    → lead ≡ leadOf (votes .heard) → Told votes n (record { answer = Detected (Phase won share); counts = votes .all; lead = lead })
+told v s l = record { answer = rw (s, v .won); same = refl; lead = l }
 
 -- ---- an accepted call
 module _ (m : Mode) (kinds : List ℕ) (xs : List Float) where
   -- the counts of so few spectra
-  pub few-counted : {counts : List ℕ} {k : ℕ} → Whole m (length xs) → k ≡ totalCarriers m → counts ≡ countsOf (votes (ballots m kinds xs))
-      → Counted counts (length xs / (2 * k))
-  few-counted {counts} {k} w e c =
+  pub few-counted : {cast : Votes} {k : ℕ} → Whole m (length xs) → k ≡ totalCarriers m → VotesOf (ballots m kinds xs) cast
+      → Counted (cast .all) (length xs / (2 * k))
+  few-counted {cast} {k} w e c =
       let vs = votes (ballots m kinds xs) in
       let total : length xs / (2 * k) ≤ 1024 = rw e (w .few) in
       record {
         each = λ p h.
-            let n : getD counts p 0 ≡ countOf vs p = rw c (counts-at vs p h) in
+            let n : getD (cast .all) p 0 ≡ countOf vs p = rw (c .all) (counts-at vs p h) in
             record { votes = omega (arith, n, votes-few m kinds xs p, w .few); spectra = total };
       }
 
@@ -63,15 +58,15 @@ module _ (m : Mode) (kinds : List ℕ) (xs : List Float) where
   unfolding detected acceptedCounts
   no-pilots p n =
       let none : eqb (length (pilots m kinds 0)) 0 ≡ true = not-false _ p in
-      record { answer = n .same ∙ rw none; counts = n .counts ∙ rw none; lead = n .lead ∙ sym (rw none no-lead) }
+      record { answer = n .same ∙ rw none; counts = n .counts ∙ rw none; lead = n .lead ∙ rw none }
 
-  pub some-pilots : {r : PilotAnswer} {counts : List ℕ} {k : ℕ} → somePilots m kinds ≡ true → k ≡ totalCarriers m
-      → counts ≡ countsOf (votes (ballots m kinds xs)) → Told counts (length xs / (2 * k)) r → Accepted m kinds xs r
+  pub some-pilots : {r : PilotAnswer} {cast : Votes} {k : ℕ} → somePilots m kinds ≡ true → k ≡ totalCarriers m
+      → VotesOf (ballots m kinds xs) cast → Told cast (length xs / (2 * k)) r → Accepted m kinds xs r
   unfolding detected acceptedCounts phaseOf
-  some-pilots {r} {counts} {k} p e c t =
+  some-pilots {r} {cast} {k} p e c t =
       let some : eqb (length (pilots m kinds 0)) 0 ≡ false = not-true _ p in
       let n : length xs / (2 * k) ≡ length (ballots m kinds xs) = rw e (sym (ballots-length m kinds xs)) in
-      record { answer = t .answer ∙ rw (some, c, n); counts = t .same ∙ rw some c; lead = t .lead ∙ rw (some, c) }
+      record { answer = t .answer ∙ rw (some, c .all, n); counts = t .same ∙ rw some (c .all); lead = t .lead ∙ rw (some, c .heard) }
 
 -- ---- the number that refuses a call, by the tests; code is the layout's, and k the carriers of a spectrum
 module _ (code : ℕ) (m : Mode) (n : ℕ) where
@@ -91,21 +86,17 @@ module _ (code : ℕ) (m : Mode) (n : ℕ) where
 
 -- ---- what an answer, counts and a lead make
 made : (number : ModeNumber) (kinds : List ℕ) (xs : List Float) {r : PilotAnswer} → r .answer ≡ phaseAnswer number kinds xs
-    → r .counts ≡ countsAnswer number kinds xs → r .lead ≡ leadOf (countsAnswer number kinds xs) → PhaseDetected number kinds xs r
+    → r .counts ≡ countsAnswer number kinds xs → r .lead ≡ leadAnswer number kinds xs → PhaseDetected number kinds xs r
 made number kinds xs a c l = record { number = ap phaseNumber a ∙ phase-number number kinds xs; answer = a; counts = c; lead = l }
 
--- ---- nothing was counted
-nothing-detected : (number : ModeNumber) (kinds : List ℕ) (xs : List Float) {answer : PhaseAnswer} {r : PilotAnswer}
-    → answer ≡ phaseAnswer number kinds xs → countsAnswer number kinds xs ≡ noCounts → Nothing answer r → PhaseDetected number kinds xs r
-nothing-detected number kinds xs e c a = made number kinds xs (a .same ∙ e) (a .counts ∙ sym c) (a .lead ∙ sym (ap leadOf c ∙ no-lead))
-
+-- ---- a refused call, in which nothing was counted
 refused-by : (number : ModeNumber) (kinds : List ℕ) (xs : List Float) {n : ℕ} {r : PilotAnswer} → n ≡ phaseCode number kinds (length xs)
     → (n ≡ 0 → ⊥) → Nothing (Refused n) r → PhaseDetected number kinds xs r
-unfolding phaseCode countsAnswer phaseAnswer
-refused-by Unknown kinds xs e h a = nothing-detected Unknown kinds xs (ap Refused e) refl a
+unfolding phaseCode countsAnswer phaseAnswer leadAnswer
+refused-by Unknown kinds xs e h a = made Unknown kinds xs (a .same ∙ ap Refused e) (a .counts) (a .lead)
 refused-by (Known m) kinds xs {n} e h a =
     let no : eqb (phaseCode (Known m) kinds (length xs)) 0 ≡ false = ap (λ (z : ℕ). eqb z 0) (sym e) ∙ ne-eqb n 0 h in
-    nothing-detected (Known m) kinds xs (rw no (ap Refused e)) (rw no) a
+    made (Known m) kinds xs (a .same ∙ rw no (ap Refused e)) (a .counts ∙ rw no) (a .lead ∙ rw no)
 
 -- ---- the layout's number and the length's are the operation's
 module _ {number : ModeNumber} {kinds : List ℕ} (xs : List Float) {code : ℕ} {m : Mode} {read : List ℕ} (a : AcceptedLayout number kinds code m read)
@@ -139,7 +130,7 @@ module _ {number : ModeNumber} {kinds : List ℕ} (xs : List Float) {code : ℕ}
     whole = both .1
 
     pub accepted : {r : PilotAnswer} → Accepted m read xs r → PhaseDetected number kinds xs r
-    unfolding countsAnswer phaseAnswer acceptedCounts
+    unfolding countsAnswer phaseAnswer leadAnswer acceptedCounts
     accepted r =
         let c = both .0 in
         let known = a .known c in

@@ -1,17 +1,18 @@
--- What `count_votes` keeps: the counts of the votes of the spectra passed.
+-- What `count_votes` keeps: the counts of the votes of the spectra passed, and of those among them that were heard.
 -- Assumes nothing.
 use Prim.Native.Nat.{ℕ, suc, _+_, _*_, _-_, _≤_, _<_}
 use mathlib.Core.Bool.{Bool, true, false, cond}
-use mathlib.Core.List.{List, [], _∷_, _++_}
+use mathlib.Core.List.{List, [], _∷_, _++_, append-nil}
 use mathlib.Core.Path.{_≡_, refl, sym, ap, _∙_}
 use native.Mathlib.Decide.{decLt, ℕ-discrete}
-use native.Mathlib.Nat.{div-add-mod', mul-le-mul-right, lt-of-mul-lt-mul-right, suc-mul, zero-mul, mul-left-comm}
+use native.Mathlib.Nat.{div-add-mod', mul-le-mul-right, lt-of-mul-lt-mul-right, suc-mul, zero-mul, add-zero, mul-left-comm}
 use native.Mathlib.Numerals.{add-one}
 use native.Mathlib.Omega.{arith}
 use borrow.Author.Tests.{eq-eqb, ne-eqb}
+use mir.Val.{boolByte}
 use lib.Dec.{eqb}
 use lib.ListN.{length, getD, take, drop, set, length-set, length-drop}
-use lib.Seq.{getD-set-same, getD-set-other, ext-getD, length-take-le, getD-take, getD-drop}
+use lib.Seq.{getD-set-same, getD-set-other, set-getD, ext-getD, length-take-le, getD-take, getD-drop}
 use lib.Ieee.{Float, nan}
 use Rattle.lists.specs.Lists.{upTo}
 use Rattle.lists.specs.Select.{length-upTo}
@@ -19,23 +20,17 @@ use Rattle.params.specs.declared.Mode.{Mode}
 use Rattle.params.specs.Params.{totalCarriers}
 use Rattle.params.specs.Laws.{sized}
 use Rattle.spectra.specs.Spectra.{pairAt, spectraIn}
-use Rattle.ballots.specs.Ballots.{choiceOf, Ballot, ballotOf, spectrumAt, ballotAt, ballots}
-use Rattle.pilot_phase.specs.PilotPhase.{voteOf, votesFrom, votes, countOf, countsOf}
-use Rattle.pilot_phase.specs.Facts.{votes-length, counts-length, counts-at, count-append, votes-append}
+use Rattle.ballots.specs.declared.Ballot.{Ballot}
+use Rattle.ballots.specs.Ballots.{ballotOf, spectrumAt, ballotAt, heardAt, ballots}
+use Rattle.pilot_phase.specs.declared.Votes.{Votes}
+use Rattle.pilot_phase.specs.PilotPhase.{voteOf, votesFrom, votes, heardFrom, countOf, countsOf}
+use Rattle.pilot_phase.specs.Facts.{votes-length, counts-length, counts-at, count-few, count-append, votes-more}
+use Rattle.pilot_phase.specs.Heard.{heard-more, heard-few}
 use Rattle.ballots.specs.Changed.{ballot-alike}
 use Rattle.ballots.specs.Inner.{Spectrum}
-use Rattle.pilot_phase.specs.Inner.{Votable}
+use Rattle.pilot_phase.specs.Inner.{Votable, VotesOf}
 
 -- ---- a vote more
-pub count-few : (vs : List ℕ) (v : ℕ) → countOf vs v ≤ length vs
-unfolding countOf
-count-few [] v = omega arith
-count-few (x ∷ vs) v = by (eqb x v) (count-few vs v)
-  where
-    by : (b : Bool) → countOf vs v ≤ length vs → cond b 1 0 + countOf vs v ≤ suc (length vs)
-    by true h = omega arith
-    by false h = omega arith
-
 module _ (vs : List ℕ) (x : ℕ) (h : x < 4) where
   abbrev counts-before : List ℕ
   counts-before = countsOf vs
@@ -63,6 +58,16 @@ module _ (vs : List ℕ) (x : ℕ) (h : x < 4) where
       let size : length counts-set ≡ 4 = length-set counts-before x _ ∙ counts-length vs in
       ext-getD 0 counts-set counts-after (size ∙ sym (counts-length (vs ++ (x ∷ [])))) (λ i l. count-set i (rw size at l) (ℕ-discrete i x))
 
+-- or none, where the symbol was not heard; `boolByte` is the code's number of a Bool
+counts-if : (vs : List ℕ) (x : ℕ) → x < 4 → (b : Bool)
+    → set (countsOf vs) x (getD (countsOf vs) x 0 + boolByte b) ≡ countsOf (vs ++ cond b (x ∷ []) [])
+counts-if vs x h true = counts-more vs x h
+counts-if vs x h false = rw (add-zero (getD (countsOf vs) x 0), append-nil vs) (set-getD (countsOf vs) x 0)
+
+one-at-most : (b : Bool) → boolByte b ≤ 1
+one-at-most true = omega arith
+one-at-most false = omega arith
+
 -- ---- spectrum after spectrum
 abbrev spectraHere : Mode → List Float → ℕ
 spectraHere mode xs = spectraIn (totalCarriers mode) (length xs)
@@ -74,30 +79,28 @@ votesTo mode kinds xs j = votes (upTo (ballotAt mode kinds xs) j)
 length-to : (mode : Mode) (kinds : List ℕ) (xs : List Float) (j : ℕ) → length (votesTo mode kinds xs j) ≡ j
 length-to mode kinds xs j = votes-length 0 (upTo (ballotAt mode kinds xs) j) ∙ length-upTo (ballotAt mode kinds xs) j
 
-votes-more : (mode : Mode) (kinds : List ℕ) (xs : List Float) (j : ℕ)
-    → votesTo mode kinds xs (j + 1) ≡ votesTo mode kinds xs j ++ (voteOf j (ballotAt mode kinds xs j .choice) ∷ [])
-unfolding votesFrom
-votes-more mode kinds xs j =
-    let z : 0 + j ≡ j = omega arith in
-    rw add-one (votes-append 0 (upTo (ballotAt mode kinds xs) j) (ballotAt mode kinds xs j ∷ []) ∙ rw (length-upTo (ballotAt mode kinds xs) j, z))
-
 pub votes-few : (mode : Mode) (kinds : List ℕ) (xs : List Float) (v : ℕ) → countOf (votes (ballots mode kinds xs)) v ≤ spectraHere mode xs
 unfolding ballots
 votes-few mode kinds xs v = omega (arith, count-few (votesTo mode kinds xs (spectraHere mode xs)) v, length-to mode kinds xs (spectraHere mode xs))
 
--- they are counted, and spectrum j starts at from; w is the code's count of a spectrum's floats
-pub record Counted (mode : Mode) (kinds : List ℕ) (xs : List Float) (w : ℕ) (counts : List ℕ) (from j : ℕ) : Type 0 where
+-- those of them that were heard
+abbrev heardTo : Mode → List ℕ → List Float → ℕ → List ℕ
+heardTo mode kinds xs j = heardFrom 0 (upTo (ballotAt mode kinds xs) j)
+
+-- both are counted, and spectrum j starts at from; w is the code's count of a spectrum's floats
+pub record Counted (mode : Mode) (kinds : List ℕ) (xs : List Float) (w : ℕ) (all heard : List ℕ) (from j : ℕ) : Type 0 where
   pub floats : w ≡ 2 * totalCarriers mode
   pub start : from ≡ j * w
   pub passed : j ≤ spectraHere mode xs
-  pub counted : counts ≡ countsOf (votesTo mode kinds xs j)
+  pub counted : all ≡ countsOf (votesTo mode kinds xs j)
+  pub listened : heard ≡ countsOf (heardTo mode kinds xs j)
 
 module _ {mode : Mode} {kinds : List ℕ} {xs : List Float} {w : ℕ} where
-  pub begin : w ≡ 2 * totalCarriers mode → Counted mode kinds xs w (0 ∷ 0 ∷ 0 ∷ 0 ∷ []) 0 0
-  unfolding countsOf countOf votesFrom
-  begin e = record { floats = e; start = sym (zero-mul w); passed = omega arith; counted = refl }
+  pub begin : w ≡ 2 * totalCarriers mode → Counted mode kinds xs w (0 ∷ 0 ∷ 0 ∷ 0 ∷ []) (0 ∷ 0 ∷ 0 ∷ 0 ∷ []) 0 0
+  unfolding countsOf countOf votesFrom heardFrom
+  begin e = record { floats = e; start = sym (zero-mul w); passed = omega arith; counted = refl; listened = refl }
 
-  module _ {signs : List ℕ} (p : Votable mode (length xs) signs) {counts : List ℕ} {from j : ℕ} (c : Counted mode kinds xs w counts from j) where
+  module _ {signs : List ℕ} (p : Votable mode (length xs) signs) {all heard : List ℕ} {from j : ℕ} (c : Counted mode kinds xs w all heard from j) where
     whole : length xs ≡ spectraHere mode xs * w
     whole = rw (c .floats) (omega (arith, div-add-mod' (length xs) (2 * totalCarriers mode), p .spectra .whole))
 
@@ -136,31 +139,38 @@ module _ {mode : Mode} {kinds : List ℕ} {xs : List Float} {w : ℕ} where
           let im : from + (2 * k + 1) ≡ 2 * (j * totalCarriers mode + k) + 1 = omega arith in
           rw (float-at (2 * k) (omega (arith, c .floats)), float-at (2 * k + 1) (omega (arith, c .floats)), re, im)
 
-      module _ {r : ℕ} (e : r ≡ choiceOf mode kinds (pairAt part)) where
-        voted : voteOf j r ≡ voteOf j (ballotAt mode kinds xs j .choice)
-        unfolding ballotOf
-        voted =
-            let same = ballot-alike mode kinds (spectrumAt (totalCarriers mode) xs j) (pairAt part) part-at in
-            ap (voteOf j) e ∙ ap (λ (b : Ballot). voteOf j (b .choice)) same
+      module _ {b : Ballot} (e : b ≡ ballotOf mode kinds (pairAt part)) where
+        cast : b ≡ ballotAt mode kinds xs j
+        cast = e ∙ ballot-alike mode kinds (spectrumAt (totalCarriers mode) xs j) (pairAt part) part-at
 
-        pub few-votes : getD counts (voteOf j r) 0 < 1024
+        abbrev vote : ℕ
+        vote = voteOf j (b .choice)
+
+        pub few-votes : getD all vote 0 < 1024
         few-votes =
             let vs = votesTo mode kinds xs j in
-            let n : getD counts (voteOf j r) 0 ≡ countOf vs (voteOf j r) = rw (c .counted) (counts-at vs (voteOf j r) (omega arith)) in
-            omega (arith, n, count-few vs (voteOf j r), length-to mode kinds xs j, within)
+            let n : getD all vote 0 ≡ countOf vs vote = rw (c .counted) (counts-at vs vote (omega arith)) in
+            omega (arith, n, count-few vs vote, length-to mode kinds xs j, within)
 
-        pub again : Counted mode kinds xs w (set counts (voteOf j r) (getD counts (voteOf j r) 0 + 1)) (from + w) (j + 1)
+        pub few-heard : getD heard vote 0 + boolByte (b .heard) ≤ 1024
+        few-heard =
+            let vs = heardTo mode kinds xs j in
+            let n : getD heard vote 0 ≡ countOf vs vote = rw (c .listened) (counts-at vs vote (omega arith)) in
+            omega (arith, n, one-at-most (b .heard), count-few vs vote, heard-few 0 (upTo (ballotAt mode kinds xs) j), length-upTo (ballotAt mode kinds xs) j, within)
+
+        pub again : Counted mode kinds xs w (set all vote (getD all vote 0 + 1)) (set heard vote (getD heard vote 0 + boolByte (b .heard))) (from + w) (j + 1)
         again =
             record {
               floats = c .floats;
               start = rw (add-one j, suc-mul) (omega (arith, c .start));
               passed = omega (arith, inside);
-              counted = rw (c .counted, voted, votes-more mode kinds xs j) (counts-more (votesTo mode kinds xs j) _ (omega arith));
+              counted = rw (c .counted, cast, add-one j, votes-more (ballotAt mode kinds xs) j) (counts-more (votesTo mode kinds xs j) _ (omega arith));
+              listened = rw (c .listened, cast, add-one j, heard-more (ballotAt mode kinds xs) j) (counts-if (heardTo mode kinds xs j) _ (omega arith) (heardAt mode kinds xs j));
             }
 
-    pub done : length xs ≤ from → counts ≡ countsOf (votes (ballots mode kinds xs))
+    pub done : length xs ≤ from → VotesOf (ballots mode kinds xs) (record { all = all; heard = heard })
     unfolding ballots
-    done h = c .counted ∙ ap (λ (n : ℕ). countsOf (votesTo mode kinds xs n)) (by (decLt j (spectraHere mode xs)))
+    done h = let e = by (decLt j (spectraHere mode xs)) in record { all = rw e at (c .counted); heard = rw e at (c .listened) }
       where
         by : Dec (j < spectraHere mode xs) → j ≡ spectraHere mode xs
         by (yes l) = absurd (omega (arith, room l, c .floats, sized mode .band))

@@ -18,7 +18,9 @@ use Rattle.ballots.specs.Ballots.{pilots, ballots}
 use Rattle.ballots.specs.Changed.{changed-ballots}
 use Rattle.pilot_phase.specs.declared.PilotPhase.the-variants.{NoScatteredPilots}
 use Rattle.pilot_phase.specs.declared.PhaseAnswer.the-variants.{Detected, Refused}
-use Rattle.pilot_phase.specs.PilotPhase.{votes, countsOf, phaseOf, phaseCode, detected, phaseAnswer, noCounts, countsAnswer}
+use Rattle.winner.specs.Winner.{leadOf}
+use Rattle.pilot_phase.specs.PilotPhase.{votes, countsOf, heardCounts, phaseOf, phaseCode, detected, phaseAnswer, noCounts, countsAnswer}
+use Rattle.pilot_phase.specs.PilotPhase.{leadBeside, leadAnswer}
 
 module _ (c : Change) (mode : Mode) (kinds : List ℕ) (xs ys : List Float) (A : Allowed c (totalCarriers mode) xs)
     (h : Changed c (totalCarriers mode) (λ b. b) xs ys) where
@@ -37,3 +39,7 @@ module _ (c : Change) (mode : Mode) (kinds : List ℕ) (xs ys : List Float) (A :
       cond (eqb (phaseCode (Known mode) kinds (h .long i)) 0)
       (cond (eqb (length (pilots mode kinds 0)) 0) noCounts (countsOf (votes (same i))))
       noCounts
+
+  pub changed-lead : leadAnswer (Known mode) kinds ys ≡ leadAnswer (Known mode) kinds xs
+  unfolding leadAnswer
+  changed-lead = λ i. leadBeside (changed-phase i) (leadOf (heardCounts (same i)))

@@ -1,7 +1,7 @@
 -- What document 01 says of the pilot phase: every spectrum votes, so the four counts add up to the number of spectra; zero spectra give phase 3,
 -- share 0.0. The phase of symbol 0 is handed on to symbol j, and the counts of two captures, one behind the other, come from the counts of each.
 -- Assumes nothing.
-use Prim.Native.Nat.{ℕ, suc, _+_, _-_, _%_, _<_}
+use Prim.Native.Nat.{ℕ, suc, _+_, _-_, _%_, _≤_, _<_}
 use mathlib.Core.Bool.{Bool, true, false, cond}
 use mathlib.Core.List.{List, [], _∷_, _++_}
 use mathlib.Core.Path.{_≡_, refl, sym, ap, _∙_}
@@ -11,6 +11,7 @@ use borrow.Author.Tests.{eq-eqb, ne-eqb, eqb-true, eqb-false}
 use lib.Dec.{eqb, lit<}
 use lib.ListN.{getD, length}
 use lib.Ieee.{Float, binary32, div, ofInt, ofBits}
+use Rattle.lists.specs.Lists.{upTo}
 use Rattle.lists.specs.Refusals.{numbered}
 use Rattle.ieee.specs.Constants.{plusZero}
 use Rattle.lists.specs.Select.{length-upTo, getD-upTo, upTo-same}
@@ -26,7 +27,8 @@ use Rattle.pilot_phase.specs.declared.PilotPhase.{PilotPhase}
 use Rattle.pilot_phase.specs.declared.PilotPhase.the-variants.{Phase}
 use Rattle.pilot_phase.specs.declared.PhaseAnswer.{PhaseAnswer}
 use Rattle.pilot_phase.specs.declared.PhaseAnswer.the-variants.{Detected, Refused}
-use Rattle.ballots.specs.Ballots.{pilots, Ballot, ballots}
+use Rattle.ballots.specs.declared.Ballot.{Ballot}
+use Rattle.ballots.specs.Ballots.{pilots, ballots}
 use Rattle.ballots.specs.Facts.{ballots-length}
 use Rattle.winner.specs.Winner.{wonBy, shareOf}
 use Rattle.pilot_phase.specs.PilotPhase.{phaseAt, voteOf, votesFrom, votes, countOf, countsOf, plusCounts, turnedBack}
@@ -80,6 +82,16 @@ unfolding votesFrom
 votes-length j [] = refl
 votes-length j (b ∷ bs) = ap suc (votes-length (suc j) bs)
 
+-- no phase has more of them than there are
+pub count-few : (vs : List ℕ) (v : ℕ) → countOf vs v ≤ length vs
+unfolding countOf
+count-few [] v = omega arith
+count-few (x ∷ vs) v = by (eqb x v) (count-few vs v)
+  where
+    by : (b : Bool) → countOf vs v ≤ length vs → cond b 1 0 + countOf vs v ≤ suc (length vs)
+    by true h = omega arith
+    by false h = omega arith
+
 -- a number below four is one of the four
 one-of-four : (x : ℕ) → x < 4 → cond (eqb x 0) 1 0 + cond (eqb x 1) 1 0 + cond (eqb x 2) 1 0 + cond (eqb x 3) 1 0 ≡ 1
 one-of-four x h = agree (λ x. cond (eqb x 0) 1 0 + cond (eqb x 1) 1 0 + cond (eqb x 2) 1 0 + cond (eqb x 3) 1 0) (λ x. 1) 4 refl x h
@@ -128,6 +140,11 @@ pub votes-append : (j : ℕ) (bs cs : List Ballot) → votesFrom j (bs ++ cs) �
 unfolding votesFrom
 votes-append j [] cs = let z : j + 0 ≡ j = omega arith in rw z
 votes-append j (b ∷ bs) cs = let z : j + suc (length bs) ≡ suc j + length bs = omega arith in rw (z, votes-append (suc j) bs cs)
+
+-- the vote of symbol n more
+pub votes-more : (f : ℕ → Ballot) (n : ℕ) → votes (upTo f (suc n)) ≡ votes (upTo f n) ++ (voteOf n (f n .choice) ∷ [])
+unfolding votesFrom
+votes-more f n = let z : 0 + n ≡ n = omega arith in votes-append 0 (upTo f n) (f n ∷ []) ∙ rw (length-upTo f n, z)
 
 -- turned back by j symbols and then by n
 turned-inside : (x n : ℕ) → (x % 4 + 4 - n % 4) % 4 ≡ (x + 4 - n % 4) % 4

@@ -12,6 +12,7 @@ use Rattle.params.specs.declared.Mode.{Mode}
 use Rattle.params.specs.Params.{totalCarriers}
 use Rattle.spectra.specs.Spectra.{spectraIn, areSpectra}
 use Rattle.prbs.specs.Signs.{bandSigns}
+use Rattle.ballots.specs.declared.Ballot.{Ballot}
 use Rattle.ballots.specs.Ballots.{pilots, ballots}
 use Rattle.winner.specs.Winner.{wonBy, shareOf, leadOf}
 use Rattle.winner.specs.Inner.{Few}
@@ -19,7 +20,8 @@ use Rattle.pilot_phase.specs.declared.PilotPhase.the-variants.{Phase}
 use Rattle.pilot_phase.specs.declared.PhaseAnswer.{PhaseAnswer}
 use Rattle.pilot_phase.specs.declared.PhaseAnswer.the-variants.{Detected}
 use Rattle.pilot_phase.specs.declared.PilotAnswer.{PilotAnswer}
-use Rattle.pilot_phase.specs.PilotPhase.{votes, countsOf, detected, noCounts}
+use Rattle.pilot_phase.specs.declared.Votes.{Votes}
+use Rattle.pilot_phase.specs.PilotPhase.{votes, countsOf, heardCounts, detected, noCounts, leadBeside}
 
 -- ---- the votes
 -- n floats are whole spectra of the band, at most 1,024
@@ -31,6 +33,11 @@ pub record Whole (mode : Mode) (n : ℕ) : Type 0 where
 pub record Votable (mode : Mode) (n : ℕ) (signs : List ℕ) : Type 0 where
   pub spectra : Whole mode n
   pub signed : signs ≡ bandSigns mode
+
+-- the votes of all ballots, and of those that were heard
+pub record VotesOf (bs : List Ballot) (r : Votes) : Type 0 where
+  pub all : r .all ≡ countsOf (votes bs)
+  pub heard : r .heard ≡ heardCounts bs
 
 -- each of the counts of n spectra is few
 pub record Counted (counts : List ℕ) (n : ℕ) : Type 0 where
@@ -47,11 +54,11 @@ pub record Nothing (answer : PhaseAnswer) (r : PilotAnswer) : Type 0 where
   pub counts : r .counts ≡ noCounts
   pub lead : r .lead ≡ 0
 
--- what these counts of the votes of `total` spectra tell
-pub record Told (counts : List ℕ) (total : ℕ) (r : PilotAnswer) : Type 0 where
-  pub answer : r .answer ≡ Detected (Phase (wonBy counts) (shareOf (getD counts (wonBy counts) 0) total))
-  pub same : r .counts ≡ counts
-  pub lead : r .lead ≡ leadOf counts
+-- what these votes of `total` spectra tell: those of all symbols the phase and its share, those of the symbols heard the lead
+pub record Told (votes : Votes) (total : ℕ) (r : PilotAnswer) : Type 0 where
+  pub answer : r .answer ≡ Detected (Phase (wonBy (votes .all)) (shareOf (getD (votes .all) (wonBy (votes .all)) 0) total))
+  pub same : r .counts ≡ votes .all
+  pub lead : r .lead ≡ leadOf (votes .heard)
 
 -- the counts of an accepted call, and all that it answers
 unfoldable pub acceptedCounts : Mode → List ℕ → List Float → List ℕ
@@ -60,4 +67,4 @@ acceptedCounts mode kinds xs = cond (eqb (length (pilots mode kinds 0)) 0) noCou
 pub record Accepted (mode : Mode) (kinds : List ℕ) (xs : List Float) (r : PilotAnswer) : Type 0 where
   pub answer : r .answer ≡ Detected (detected mode kinds xs)
   pub counts : r .counts ≡ acceptedCounts mode kinds xs
-  pub lead : r .lead ≡ leadOf (acceptedCounts mode kinds xs)
+  pub lead : r .lead ≡ leadBeside (Detected (detected mode kinds xs)) (leadOf (heardCounts (ballots mode kinds xs)))

@@ -2,3 +2,4 @@ pub mod PilotPhase
 pub mod Inner
 pub mod Changed
 pub mod Facts
+pub mod Heard

@@ -1,6 +1,7 @@
 -- The pilot phase (acquire.rs, `detect_sp_phase`; document 01, "The pilot phase"). Each symbol's choice, turned back by the symbol's number, is
--- its vote for the phase of symbol 0; the phase with the most votes is answered, with its share of them, the four counts and the lead. All this
--- is a function of the ballots (ballots/specs/Ballots, winner/specs/Winner).
+-- its vote for the phase of symbol 0; the phase with the most votes is answered, with its share of them, the four counts and the lead. The lead is
+-- worked out over the votes of the symbols that were heard (document 02, Ask 4). All this is a function of the ballots (ballots/specs/Ballots,
+-- winner/specs/Winner).
 -- Definitions only.
 use Prim.Native.Nat.{ℕ, suc, _+_, _-_, _%_}
 use mathlib.Core.Bool.{cond}
@@ -22,7 +23,8 @@ use Rattle.pilot_phase.specs.declared.PilotPhase.the-variants.{NoScatter
 use Rattle.pilot_phase.specs.declared.PhaseAnswer.{PhaseAnswer}
 use Rattle.pilot_phase.specs.declared.PhaseAnswer.the-variants.{Detected, Refused}
 use Rattle.pilot_phase.specs.declared.PilotAnswer.{PilotAnswer}
-use Rattle.ballots.specs.Ballots.{pilots, Ballot, ballots}
+use Rattle.ballots.specs.declared.Ballot.{Ballot}
+use Rattle.ballots.specs.Ballots.{pilots, ballots}
 use Rattle.winner.specs.Winner.{wonBy, shareOf, leadOf}
 
 -- ---- from the phase of symbol 0 to that of symbol j, and back
@@ -41,6 +43,11 @@ votesFrom j (b ∷ bs) = voteOf j (b .choice) ∷ votesFrom (suc j) bs
 abbrev pub votes : List Ballot → List ℕ
 votes bs = votesFrom 0 bs
 
+-- those of the symbols that were heard, each turned back by its own number
+unfoldable pub heardFrom : ℕ → List Ballot → List ℕ
+heardFrom j [] = []
+heardFrom j (b ∷ bs) = let later = heardFrom (suc j) bs in cond (b .heard) (voteOf j (b .choice) ∷ later) later
+
 unfoldable pub countOf : List ℕ → ℕ → ℕ
 countOf [] v = 0
 countOf (x ∷ xs) v = cond (eqb x v) 1 0 + countOf xs v
@@ -48,6 +55,10 @@ countOf (x ∷ xs) v = cond (eqb x v) 1 0 + countOf xs v
 -- the four counts
 unfoldable pub countsOf : List ℕ → List ℕ
 countsOf vs = upTo (countOf vs) 4
+
+-- the counts behind the lead
+abbrev pub heardCounts : List Ballot → List ℕ
+heardCounts bs = countsOf (heardFrom 0 bs)
 
 -- two lists of counts, phase by phase; and counts whose votes are all turned back by n symbols
 abbrev pub plusCounts : List ℕ → List ℕ → List ℕ
@@ -86,6 +97,16 @@ countsAnswer (Known m) kinds xs =
     (cond (eqb (length (pilots m kinds 0)) 0) noCounts (countsOf (votes (ballots m kinds xs))))
     noCounts
 
+-- the lead, of the symbols that were heard; 0 where no phase is told
+abbrev pub leadBeside : PhaseAnswer → ℕ → ℕ
+leadBeside (Detected (Phase p s)) lead = lead
+leadBeside (Detected NoScatteredPilots) lead = 0
+leadBeside (Refused code) lead = 0
+
+unfoldable pub leadAnswer : ModeNumber → List ℕ → List Float → ℕ
+leadAnswer Unknown kinds xs = 0
+leadAnswer (Known m) kinds xs = leadBeside (phaseAnswer (Known m) kinds xs) (leadOf (heardCounts (ballots m kinds xs)))
+
 -- ---- document 01's number of each case, and the values that it gives; what was lent, where it gives none
 abbrev pub phaseNumber : PhaseAnswer → ℕ
 phaseNumber (Detected found) = 0
@@ -116,4 +137,4 @@ pub record PhaseDetected (mode : ModeNumber) (kinds : List ℕ) (xs : List Float
   pub number : phaseNumber (r .answer) ≡ phaseCode mode kinds (length xs)
   pub answer : r .answer ≡ phaseAnswer mode kinds xs
   pub counts : r .counts ≡ countsAnswer mode kinds xs
-  pub lead : r .lead ≡ leadOf (countsAnswer mode kinds xs)
+  pub lead : r .lead ≡ leadAnswer mode kinds xs

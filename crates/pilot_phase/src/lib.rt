@@ -1,11 +1,13 @@
 // The scattered-pilot phase (acquire.rs of isdb-rs, `detect_sp_phase`). Every spectrum votes for the phase
 // of symbol 0 by its ballot, turned back; the votes are counted, and the phase with the most is answered.
+// Symbols in which no pilot was heard vote too, but the lead is worked out without them: a recording that
+// starts before the carrier is up would else be told by how much its silence agrees with itself.
 ghost use mathlib.Core.Path.{_≡_};
 ghost use lib.ListN.{length};
 ghost use Rattle.params.specs.Params.{modeFrom};
 ghost use Rattle.ballots.specs.Ballots.{ballots};
-ghost use Rattle.pilot_phase.specs.PilotPhase.{votes, countsOf, PhaseDetected};
-ghost use Rattle.pilot_phase.specs.Inner.{Whole, Votable, Counted, Nothing, Told, lengthCode, Accepted};
+ghost use Rattle.pilot_phase.specs.PilotPhase.{PhaseDetected};
+ghost use Rattle.pilot_phase.specs.Inner.{Whole, Votable, VotesOf, Counted, Nothing, Told, lengthCode, Accepted};
 use frame::FrameLayout;
 use params::Mode;
 
@@ -21,38 +23,51 @@ pub enum PhaseAnswer {
     Refused(u8),
 }
 
-// The answer; the four counts, and the largest less the largest of the others.
+// The answer; the four counts; and of the counts of the symbols that were heard, the largest less the
+// largest of the others.
 pub struct PilotAnswer {
     pub answer: PhaseAnswer,
     pub counts: [u32; 4],
     pub lead: u32,
 }
 
+// The votes for each phase of symbol 0: of all symbols, and of those that were heard.
+pub struct Votes {
+    pub all: [u32; 4],
+    pub heard: [u32; 4],
+}
+
 // The votes of all spectra, counted, by the signs of the carriers.
-fn count_votes(layout: FrameLayout, spectra: &[f32], signs: &[u8]) -> [u32; 4]
+fn count_votes(layout: FrameLayout, spectra: &[f32], signs: &[u8]) -> Votes
     requires { ⌜ Votable (layout .mode) (length (now spectra)) (now signs) ⌝ }
-    ensures { λ r. ⌜ r ≡ countsOf (votes (ballots (layout .mode) (layout .kinds) (now (spectra .entry)))) ⌝ }
+    ensures { λ r. ⌜ VotesOf (ballots (layout .mode) (layout .kinds) (now (spectra .entry))) r ⌝ }
 {
     let mode = layout.mode;
     let w = 2 * mode.total_carriers();
-    let mut counts = [0u32; 4];
+    let mut all = [0u32; 4];
+    let mut heard = [0u32; 4];
     let mut from: usize = 0;
-    let mut j: usize = 0;
+    let mut j: u32 = 0;
     while from < spectra.len() {
         let to = from + w;
-        let phase = ballots::choice(layout, &spectra[from..to], signs) as usize;
-        let vote = (phase + 4 - j % 4) % 4;
-        counts[vote] = counts[vote] + 1;
+        let ballot = ballots::ballot_of(layout, &spectra[from..to], signs);
+        let vote = ((ballot.choice as u32 + 4 - j % 4) % 4) as usize;
+        let is_heard = ballot.heard as u32;
+        all[vote] = all[vote] + 1;
+        heard[vote] = heard[vote] + is_heard;
         from = to;
         j += 1;
     }
-    counts
+    Votes {
+        all: all,
+        heard: heard,
+    }
 }
 
 // The same, by the signs of the band.
-fn all_votes(layout: FrameLayout, spectra: &[f32]) -> [u32; 4]
+fn all_votes(layout: FrameLayout, spectra: &[f32]) -> Votes
     requires { ⌜ Whole (layout .mode) (length (now spectra)) ⌝ }
-    ensures { λ r. ⌜ r ≡ countsOf (votes (ballots (layout .mode) (layout .kinds) (now (spectra .entry)))) ⌝ }
+    ensures { λ r. ⌜ VotesOf (ballots (layout .mode) (layout .kinds) (now (spectra .entry))) r ⌝ }
 {
     let mode = layout.mode;
     let k = mode.total_carriers();
@@ -61,16 +76,17 @@ fn all_votes(layout: FrameLayout, spectra: &[f32]) -> [u32; 4]
     count_votes(layout, spectra, &buffer[..k])
 }
 
-// What the counts of the votes of `total` spectra tell.
-fn counted(counts: [u32; 4], total: usize) -> PilotAnswer
-    requires { ⌜ Counted counts total ⌝ }
-    ensures { λ r. ⌜ Told counts total r ⌝ }
+// What the votes of `total` spectra tell.
+fn counted(votes: Votes, total: usize) -> PilotAnswer
+    requires { ⌜ Counted (votes .all) total ⌝ }
+    ensures { λ r. ⌜ Told votes total r ⌝ }
 {
+    let counts = votes.all;
     let won = winner::won_by(counts);
-    let votes = counts[won];
-    let share = winner::share_of(votes, total);
+    let share = winner::share_of(counts[won], total);
     let phase = won as u8;
-    let lead = votes - winner::next_to(counts, won);
+    let heard = votes.heard;
+    let lead = winner::lead_of(heard);
     PilotAnswer {
         answer: PhaseAnswer::Detected(PilotPhase::Phase(phase, share)),
         counts: counts,

@@ -1,5 +1,5 @@
 -- The phase that wins is one of the four and has the most votes, and it is the largest of those with as many; the next is the largest of the other
--- three counts.
+-- three counts, and the lead over it is at most the winner's count.
 -- Assumes nothing.
 use Prim.Native.Nat.{ℕ, zero, suc, _≤_, _<_, suc-le-suc}
 use mathlib.Core.Bool.{Bool, true, false, cond}
@@ -126,6 +126,11 @@ pub next-below : (counts : List ℕ) → nextTo counts (wonBy counts) ≤ getD c
 next-below counts =
     let o = next-one counts (wonBy counts) in
     rw (o .count) (won-most counts (o .phase) (o .below))
+
+-- and so is the lead
+pub lead-below : (counts : List ℕ) → leadOf counts ≤ getD counts (wonBy counts) 0
+unfolding leadOf
+lead-below counts = omega arith
 
 -- without votes the lead is 0
 pub no-lead : leadOf (0 ∷ 0 ∷ 0 ∷ 0 ∷ []) ≡ 0

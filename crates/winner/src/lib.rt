@@ -1,7 +1,7 @@
 // The winner of four counts of votes (acquire.rs of isdb-rs, `detect_sp_phase`): the phase with the most, its
-// share of the votes, and the largest count of the other three, over which it leads.
+// share of the votes, and its lead over the largest count of the other three.
 ghost use mathlib.Core.Path.{_≡_};
-ghost use Rattle.winner.specs.Winner.{shareOf, nextTo};
+ghost use Rattle.winner.specs.Winner.{shareOf, nextTo, leadOf};
 ghost use Rattle.winner.specs.Inner.{Won, Few};
 
 // The phase with the most votes, the larger on a tie.
@@ -20,7 +20,7 @@ pub fn won_by(counts: [u32; 4]) -> usize
 }
 
 // The largest of the counts of the phases other than p.
-pub fn next_to(counts: [u32; 4], p: usize) -> u32
+fn next_to(counts: [u32; 4], p: usize) -> u32
     ensures { λ r. ⌜ r ≡ nextTo counts p ⌝ }
 {
     let mut most: u32 = 0;
@@ -34,6 +34,14 @@ pub fn next_to(counts: [u32; 4], p: usize) -> u32
         q += 1;
     }
     most
+}
+
+// By how many votes the phase with the most leads.
+pub fn lead_of(counts: [u32; 4]) -> u32
+    ensures { λ r. ⌜ r ≡ leadOf counts ⌝ }
+{
+    let won = won_by(counts);
+    counts[won] - next_to(counts, won)
 }
 
 // The share of so many votes, of zero spectra as of one.

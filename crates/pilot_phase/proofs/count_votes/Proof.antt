@@ -1,19 +1,19 @@
--- `pilot_phase::count_votes` meets its contract: the counts are those of the votes of the spectra passed.
+-- `pilot_phase::count_votes` meets its contract: the counts are those of the votes of the spectra passed, and of those that were heard.
 -- Assumes nothing.
 use Prim.Native.Nat.{_-_}
 use native.Mathlib.Omega.{arith}
 use borrow.Author.Needs.{needs}
 use lib.ListN.{length}
 use Rattle.params.specs.Laws.{sized}
-use Rattle.pilot_phase.proofs.Counting.{Counted, begin, within, spectrum, few-votes, again, done}
+use Rattle.pilot_phase.proofs.Counting.{Counted, begin, within, spectrum, few-votes, few-heard, again, done}
 use Rattle.pilot_phase.proofs.count_votes.Statement.{statement}
 use Rattle.pilot_phase.proofs.count_votes.Tie as tie
 
 abbrev Inv-loop : tie.InvT-loop
-Inv-loop layout spectra signs w counts₀ from₀ j₀ counts from j = Counted (layout .mode) (layout .kinds) spectra w counts from j
+Inv-loop layout spectra signs w all₀ heard₀ from₀ j₀ all heard from j = Counted (layout .mode) (layout .kinds) spectra w all heard from j
 
 abbrev μ-loop : tie.MeasureT-loop
-μ-loop layout spectra signs w counts₀ from₀ j₀ counts from j = length spectra - from
+μ-loop layout spectra signs w all₀ heard₀ from₀ j₀ all heard from j = length spectra - from
 
 total-carriers-requires : tie.Need-total-carriers-requires Inv-loop μ-loop
 total-carriers-requires c κs = search needs
@@ -29,67 +29,98 @@ add-to c =
     let l = c .before in
     omega (arith, within (l .before .before .before .before .pre) (l .loop .inv) (c .loop-test .taken))
 
-mul-choice : tie.Need-mul-choice Inv-loop μ-loop
-mul-choice c =
+mul-ballot-of : tie.Need-mul-ballot-of Inv-loop μ-loop
+mul-ballot-of c =
     let l = c .before in
     omega (arith, within (l .before .before .before .before .pre) (l .loop .inv) (c .loop-test .taken))
 
-sub-choice : tie.Need-sub-choice Inv-loop μ-loop
-sub-choice c = omega arith
+sub-ballot-of : tie.Need-sub-ballot-of Inv-loop μ-loop
+sub-ballot-of c = omega arith
 
-part-choice-start : tie.Need-part-choice-start Inv-loop μ-loop
-part-choice-start c = omega arith
+part-ballot-of-start : tie.Need-part-ballot-of-start Inv-loop μ-loop
+part-ballot-of-start c = omega arith
 
-part-choice-end : tie.Need-part-choice-end Inv-loop μ-loop
-part-choice-end c =
+part-ballot-of-end : tie.Need-part-ballot-of-end Inv-loop μ-loop
+part-ballot-of-end c =
     let l = c .before in
     omega (arith, within (l .before .before .before .before .pre) (l .loop .inv) (c .loop-test .taken))
 
-choice-requires : tie.Need-choice-requires Inv-loop μ-loop
-choice-requires c κs =
+ballot-of-requires : tie.Need-ballot-of-requires Inv-loop μ-loop
+ballot-of-requires c κs =
     let l = c .before .before in
     spectrum (l .before .before .before .before .pre) (l .loop .inv) (c .before .loop-test .taken)
 
-cast-phase : tie.Need-cast-phase Inv-loop μ-loop
-cast-phase c = omega arith
+cast-vote : tie.Need-cast-vote Inv-loop μ-loop
+cast-vote c = search needs
 
 add-vote : tie.Need-add-vote Inv-loop μ-loop
-add-vote c = omega arith
+add-vote c = omega (arith, c .struct-known .given)
 
 sub-vote : tie.Need-sub-vote Inv-loop μ-loop
 sub-vote c = omega arith
 
-mul-counts : tie.Need-mul-counts Inv-loop μ-loop
-mul-counts c = omega arith
+cast-vote-2 : tie.Need-cast-vote-2 Inv-loop μ-loop
+cast-vote-2 c = omega arith
 
-array-read-counts : tie.Need-array-read-counts Inv-loop μ-loop
-array-read-counts c = omega arith
+cast-is-heard : tie.Need-cast-is-heard Inv-loop μ-loop
+cast-is-heard c = search needs
 
-add-counts : tie.Need-add-counts Inv-loop μ-loop
-add-counts c =
-    let l = c .before .before .before in
-    omega (arith, few-votes (l .before .before .before .before .pre) (l .loop .inv) (c .before .before .loop-test .taken) (c .choice .ensures))
+mul-all : tie.Need-mul-all Inv-loop μ-loop
+mul-all c = omega arith
 
-mul-counts-2 : tie.Need-mul-counts-2 Inv-loop μ-loop
-mul-counts-2 c = omega arith
+array-read-all : tie.Need-array-read-all Inv-loop μ-loop
+array-read-all c = omega arith
 
-array-write-counts : tie.Need-array-write-counts Inv-loop μ-loop
-array-write-counts c = omega arith
+add-all : tie.Need-add-all Inv-loop μ-loop
+add-all c =
+    let b = c .before .before in
+    let t = b .before .before in
+    let l = t .before in
+    omega (arith, few-votes (l .before .before .before .before .pre) (l .loop .inv) (t .loop-test .taken) (b .ballot-of .ensures))
+
+mul-all-2 : tie.Need-mul-all-2 Inv-loop μ-loop
+mul-all-2 c = omega arith
+
+array-write-all : tie.Need-array-write-all Inv-loop μ-loop
+array-write-all c = omega arith
+
+mul-heard : tie.Need-mul-heard Inv-loop μ-loop
+mul-heard c = omega arith
+
+array-read-heard : tie.Need-array-read-heard Inv-loop μ-loop
+array-read-heard c = omega arith
+
+add-heard : tie.Need-add-heard Inv-loop μ-loop
+add-heard c =
+    let b = c .before .before in
+    let t = b .before .before in
+    let l = t .before in
+    omega (arith, few-heard (l .before .before .before .before .pre) (l .loop .inv) (t .loop-test .taken) (b .ballot-of .ensures))
+
+mul-heard-2 : tie.Need-mul-heard-2 Inv-loop μ-loop
+mul-heard-2 c = omega arith
+
+array-write-heard : tie.Need-array-write-heard Inv-loop μ-loop
+array-write-heard c = omega arith
 
 add-j : tie.Need-add-j Inv-loop μ-loop
 add-j c =
-    let l = c .before .before .before in
-    omega (arith, within (l .before .before .before .before .pre) (l .loop .inv) (c .before .before .loop-test .taken))
+    let t = c .before .before .before .before in
+    let l = t .before in
+    omega (arith, within (l .before .before .before .before .pre) (l .loop .inv) (t .loop-test .taken))
 
 loop-less : tie.Need-loop-less Inv-loop μ-loop
 loop-less c =
-    let l = c .before .before .before in
-    omega (arith, within (l .before .before .before .before .pre) (l .loop .inv) (c .before .before .loop-test .taken))
+    let t = c .before .before .before .before in
+    let l = t .before in
+    omega (arith, within (l .before .before .before .before .pre) (l .loop .inv) (t .loop-test .taken))
 
 loop-again : tie.Need-loop-again Inv-loop μ-loop
 loop-again c =
-    let l = c .before .before .before in
-    again (l .before .before .before .before .pre) (l .loop .inv) (c .before .before .loop-test .taken) (c .choice .ensures)
+    let b = c .before .before in
+    let t = b .before .before in
+    let l = t .before in
+    again (l .before .before .before .before .pre) (l .loop .inv) (t .loop-test .taken) (b .ballot-of .ensures)
 
 returns : tie.Need-returns Inv-loop μ-loop
 returns c = done (c .before .before .before .before .before .pre) (c .before .loop .inv) (c .loop-test .left)
@@ -104,19 +135,26 @@ count-votes-spec =
     mul-w
     loop-holds
     add-to
-    mul-choice
-    sub-choice
-    part-choice-start
-    part-choice-end
-    choice-requires
-    cast-phase
+    mul-ballot-of
+    sub-ballot-of
+    part-ballot-of-start
+    part-ballot-of-end
+    ballot-of-requires
+    cast-vote
     add-vote
     sub-vote
-    mul-counts
-    array-read-counts
-    add-counts
-    mul-counts-2
-    array-write-counts
+    cast-vote-2
+    cast-is-heard
+    mul-all
+    array-read-all
+    add-all
+    mul-all-2
+    array-write-all
+    mul-heard
+    array-read-heard
+    add-heard
+    mul-heard-2
+    array-write-heard
     add-j
     loop-less
     loop-again
