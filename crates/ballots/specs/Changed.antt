@@ -68,7 +68,7 @@ record SamePhase (mode : Mode) (kinds : List ℕ) (y z : ℕ → Pair) (phase : 
 lower : (a n : ℕ) → a + 12 < n → a < n
 lower a n h = omega arith
 
-map-same : {A : Type 0} (f g : ℕ → A) (n : ℕ) (ks : List ℕ) → Apart n ks → ((a : ℕ) → a < n → a + 12 < n → f a ≡ g a) → map f ks ≡ map g ks
+pub map-same : {A : Type 0} (f g : ℕ → A) (n : ℕ) (ks : List ℕ) → Apart n ks → ((a : ℕ) → a < n → a + 12 < n → f a ≡ g a) → map f ks ≡ map g ks
 map-same f g n [] h e = refl
 map-same f g n (a ∷ ks) h e = λ i. e a (lower a n (h .0)) (h .0) i ∷ map-same f g n ks (h .1) e i
 
@@ -143,7 +143,7 @@ gain-phase mode kinds k y A phase P =
     (λ j K w. gained-phase mode kinds (suc j) K y w phase P)
 
 -- ---- spectra that are alike in all four phases have the same ballot
-choose-same : (f g : ℕ → Float) (best : Choice) (p n : ℕ) → ((i : ℕ) → i < p + n → f i ≡ g i) → chooseFrom f best p n ≡ chooseFrom g best p n
+pub choose-same : (f g : ℕ → Float) (best : Choice) (p n : ℕ) → ((i : ℕ) → i < p + n → f i ≡ g i) → chooseFrom f best p n ≡ chooseFrom g best p n
 unfolding chooseFrom
 choose-same f g best p zero h = refl
 choose-same f g best p (suc n) h =

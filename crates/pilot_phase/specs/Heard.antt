@@ -1,5 +1,5 @@
--- What document 02 says of the lead (Ask 4): it is worked out over the symbols that were heard, each keeping its number. Where none is heard it is 0;
--- where every symbol is heard it is the lead of the four counts, as it was before; and it never exceeds the number of symbols heard.
+-- What document 02 says of the lead (Ask 4): it is worked out over the symbols that were heard, each keeping its number. Where none is heard it is
+-- 0; where every symbol is heard it is the lead of the four counts, as it was before; and it never exceeds the number of symbols heard.
 -- Assumes nothing.
 use Prim.Native.Nat.{ℕ, zero, suc, _+_, _≤_, _<_, zero-le}
 use mathlib.Core.Bool.{Bool, true, false, cond}
@@ -8,16 +8,20 @@ use mathlib.Core.Path.{_≡_, refl, sym, ap, _∙_}
 use native.Mathlib.Omega.{arith}
 use lib.Dec.{eqb}
 use lib.ListN.{length, getD, length-append}
-use lib.Ieee.{Float}
+use lib.Ieee.{Float, nan, binary32}
+use Rattle.ieee.specs.Constants.{plusZero}
+use Rattle.ieee.specs.Zeros.{canon}
 use Rattle.lists.specs.Lists.{upTo}
 use Rattle.lists.specs.Select.{length-upTo}
 use Rattle.lists.specs.Tests.{countBelow}
 use Rattle.params.specs.declared.Mode.{Mode}
-use Rattle.params.specs.declared.ModeNumber.the-variants.{Known}
+use Rattle.params.specs.declared.ModeNumber.{ModeNumber}
+use Rattle.params.specs.declared.ModeNumber.the-variants.{Known, Unknown}
 use Rattle.params.specs.Params.{totalCarriers}
 use Rattle.spectra.specs.Spectra.{spectraIn}
 use Rattle.ballots.specs.declared.Ballot.{Ballot}
 use Rattle.ballots.specs.Ballots.{pilots, ballotAt, heardAt, ballots}
+use Rattle.ballots.specs.Silent.{zeros-silent}
 use Rattle.winner.specs.Winner.{wonBy, leadOf}
 use Rattle.winner.specs.Facts.{won-phase, lead-below, no-lead}
 use Rattle.pilot_phase.specs.declared.PilotPhase.the-variants.{NoScatteredPilots, Phase}
@@ -91,7 +95,7 @@ module _ (mode : Mode) (kinds : List ℕ) (xs : List Float) where
   abbrev symbols : ℕ
   symbols = spectraIn (totalCarriers mode) (length xs)
 
-  -- silence alone has lead 0
+  -- where no symbol is heard, it is 0
   pub silent-lead : ((j : ℕ) → j < spectraIn (totalCarriers mode) (length xs) → heardAt mode kinds xs j ≡ false) → leadAnswer (Known mode) kinds xs ≡ 0
   unfolding leadAnswer countsOf countOf ballots
   silent-lead h =
@@ -135,3 +139,10 @@ module _ (mode : Mode) (kinds : List ℕ) (xs : List Float) where
           let won = wonBy (countsOf vs) in
           let n : getD (countsOf vs) won 0 ≡ countOf vs won = counts-at vs won (won-phase (countsOf vs)) in
           omega (arith, lead-below (countsOf vs), n, count-few vs won, heard-length (ballotAt mode kinds xs) symbols)
+
+-- silence alone has lead 0: zeros of either sign (`canon` forgets the sign), whatever else is handed in
+pub zeros-lead : (mode : ModeNumber) (kinds : List ℕ) (xs : List Float) → ((i : ℕ) → i < length xs → canon (getD xs i nan) ≡ plusZero binary32)
+    → leadAnswer mode kinds xs ≡ 0
+unfolding leadAnswer
+zeros-lead Unknown kinds xs z = refl
+zeros-lead (Known m) kinds xs z = silent-lead m kinds xs (zeros-silent m kinds xs z)

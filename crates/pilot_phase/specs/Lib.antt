@@ -3,3 +3,4 @@ pub mod Inner
 pub mod Changed
 pub mod Facts
 pub mod Heard
+pub mod Worked

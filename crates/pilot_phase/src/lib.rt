@@ -82,10 +82,10 @@ fn counted(votes: Votes, total: usize) -> PilotAnswer
     ensures { λ r. ⌜ Told votes total r ⌝ }
 {
     let counts = votes.all;
+    let heard = votes.heard;
     let won = winner::won_by(counts);
     let share = winner::share_of(counts[won], total);
     let phase = won as u8;
-    let heard = votes.heard;
     let lead = winner::lead_of(heard);
     PilotAnswer {
         answer: PhaseAnswer::Detected(PilotPhase::Phase(phase, share)),

@@ -15,7 +15,7 @@ array-read-share-of : tie.Need-array-read-share-of
 array-read-share-of c = search needs
 
 share-of-requires : tie.Need-share-of-requires
-share-of-requires c κs = c .before .before .pre .each _ (c .won-by .ensures .phase)
+share-of-requires c κs = c .before .before .before .pre .each _ (c .won-by .ensures .phase)
 
 cast-phase : tie.Need-cast-phase
 cast-phase c = search needs
@@ -25,7 +25,7 @@ lead-of-requires c κs = search needs
 
 returns : tie.Need-returns
 returns c =
-    let s = c .before .before in
+    let s = c .before in
     told (s .before .won-by .ensures) (s .share-of .ensures) (c .lead-of .ensures)
 
 pub counted-spec : {M : Type 1} → statement M
