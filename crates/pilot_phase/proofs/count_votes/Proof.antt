@@ -103,11 +103,14 @@ mul-heard-2 c = omega arith
 array-write-heard : tie.Need-array-write-heard Inv-loop μ-loop
 array-write-heard c = omega arith
 
+-- whatever number of a symbol is added, its sum fits; that it is 1 is asked for by `loop-again`
 add-j : tie.Need-add-j Inv-loop μ-loop
 add-j c =
-    let t = c .before .before .before .before in
+    let b = c .before .before in
+    let t = b .before .before in
     let l = t .before in
-    omega (arith, within (l .before .before .before .before .pre) (l .loop .inv) (t .loop-test .taken))
+    let pre = l .before .before .before .before .pre in
+    omega (arith, within pre (l .loop .inv) (t .loop-test .taken), few-heard pre (l .loop .inv) (t .loop-test .taken) (b .ballot-of .ensures))
 
 loop-less : tie.Need-loop-less Inv-loop μ-loop
 loop-less c =
