@@ -18,15 +18,22 @@ pub enum PilotPhase {
 pub struct PilotAnswer {
     /// The phase.
     pub phase: PilotPhase,
-    /// The votes for each phase; all 0 without scattered pilots.
+    /// The votes for each phase, one of every spectrum, silent ones too; all 0 without scattered
+    /// pilots.
     pub counts: [u32; 4],
-    /// The largest count less the largest of the other three; 0 without scattered pilots.
+    /// Of the votes of the spectra that were heard: the largest of their four counts less the largest
+    /// of the other three. At most the number of spectra heard; 0 where none is heard, and without
+    /// scattered pilots.
     pub lead: u32,
 }
 
 /// The phase of the scattered pilots in spectrum 0, the first; [`Phase::at`] has that of the others.
 ///
-/// Each spectrum has k_total pairs, by carrier, and votes once; there may be none.
+/// Each spectrum has k_total pairs, by carrier, and votes once; there may be none. The lead leaves
+/// out the votes of silent spectra, as a recording has them that began before the carrier was up; the
+/// others keep their numbers. A spectrum is heard where the pilots of at least one of the four phases
+/// have energy above zero, which a NaN is not. The energy is a sum, over the phase's pilots 12
+/// carriers apart, of the product of their sizes.
 ///
 /// Refused: [`BadFloats`](Refusal::BadFloats) unless whole spectra, at most
 /// [`MOST_SPECTRA`](crate::MOST_SPECTRA).
@@ -39,6 +46,11 @@ pub struct PilotAnswer {
 /// // No spectra: ties go to the larger phase.
 /// let answer = detect_sp_phase(Mode::M1, &[SegmentKind::Coherent; 13], &[])?;
 /// assert_eq!(answer.phase, PilotPhase::Phase(Phase::P3, 0.0));
+///
+/// // Silence votes, and has no lead.
+/// let silence = [0.0; 2 * 1405];
+/// let answer = detect_sp_phase(Mode::M1, &[SegmentKind::Coherent; 13], &silence)?;
+/// assert_eq!((answer.counts, answer.lead), ([1, 0, 0, 0], 0));
 ///
 /// // No coherent segment is an answer. A refusal is none, whatever the kinds are.
 /// let kinds = [SegmentKind::Differential; 13];
