@@ -5,7 +5,7 @@ use mathlib.Core.Bool.{Bool, true, false, cond}
 use mathlib.Core.List.{List, [], _∷_, _++_, append-nil}
 use mathlib.Core.Path.{_≡_, refl, sym, ap, _∙_}
 use native.Mathlib.Decide.{decLt, ℕ-discrete}
-use native.Mathlib.Nat.{div-add-mod', mul-le-mul-right, lt-of-mul-lt-mul-right, suc-mul, zero-mul, add-zero, mul-left-comm}
+use native.Mathlib.Nat.{le-of-eq, div-add-mod', mul-le-mul-right, lt-of-mul-lt-mul-right, suc-mul, zero-mul, add-zero, mul-left-comm}
 use native.Mathlib.Numerals.{add-one}
 use native.Mathlib.Omega.{arith}
 use borrow.Author.Tests.{eq-eqb, ne-eqb}
@@ -87,6 +87,9 @@ votes-few mode kinds xs v = omega (arith, count-few (votesTo mode kinds xs (spec
 abbrev heardTo : Mode → List ℕ → List Float → ℕ → List ℕ
 heardTo mode kinds xs j = heardFrom 0 (upTo (ballotAt mode kinds xs) j)
 
+heard-to : (mode : Mode) (kinds : List ℕ) (xs : List Float) (j : ℕ) → length (heardTo mode kinds xs j) ≤ j
+heard-to mode kinds xs j = omega (arith, heard-few 0 (upTo (ballotAt mode kinds xs) j), length-upTo (ballotAt mode kinds xs) j)
+
 -- both are counted, and spectrum j starts at from; w is the code's count of a spectrum's floats
 pub record Counted (mode : Mode) (kinds : List ℕ) (xs : List Float) (w : ℕ) (all heard : List ℕ) (from j : ℕ) : Type 0 where
   pub floats : w ≡ 2 * totalCarriers mode
@@ -146,17 +149,17 @@ module _ {mode : Mode} {kinds : List ℕ} {xs : List Float} {w : ℕ} where
         abbrev vote : ℕ
         vote = voteOf j (b .choice)
 
+        -- the counts of no more votes than symbols passed are few
+        few : {counts : List ℕ} (vs : List ℕ) → counts ≡ countsOf vs → length vs ≤ j → getD counts vote 0 < 1024
+        few {counts} vs q l =
+            let n : getD counts vote 0 ≡ countOf vs vote = rw q (counts-at vs vote (omega arith)) in
+            omega (arith, n, count-few vs vote, within)
+
         pub few-votes : getD all vote 0 < 1024
-        few-votes =
-            let vs = votesTo mode kinds xs j in
-            let n : getD all vote 0 ≡ countOf vs vote = rw (c .counted) (counts-at vs vote (omega arith)) in
-            omega (arith, n, count-few vs vote, length-to mode kinds xs j, within)
+        few-votes = few (votesTo mode kinds xs j) (c .counted) (le-of-eq (length-to mode kinds xs j))
 
         pub few-heard : getD heard vote 0 + boolByte (b .heard) ≤ 1024
-        few-heard =
-            let vs = heardTo mode kinds xs j in
-            let n : getD heard vote 0 ≡ countOf vs vote = rw (c .listened) (counts-at vs vote (omega arith)) in
-            omega (arith, n, one-at-most (b .heard), count-few vs vote, heard-few 0 (upTo (ballotAt mode kinds xs) j), length-upTo (ballotAt mode kinds xs) j, within)
+        few-heard = omega (arith, few (heardTo mode kinds xs j) (c .listened) (heard-to mode kinds xs j), one-at-most (b .heard))
 
         pub again : Counted mode kinds xs w (set all vote (getD all vote 0 + 1)) (set heard vote (getD heard vote 0 + boolByte (b .heard))) (from + w) (j + 1)
         again =
@@ -165,7 +168,9 @@ module _ {mode : Mode} {kinds : List ℕ} {xs : List Float} {w : ℕ} where
               start = rw (add-one j, suc-mul) (omega (arith, c .start));
               passed = omega (arith, inside);
               counted = rw (c .counted, cast, add-one j, votes-more (ballotAt mode kinds xs) j) (counts-more (votesTo mode kinds xs j) _ (omega arith));
-              listened = rw (c .listened, cast, add-one j, heard-more (ballotAt mode kinds xs) j) (counts-if (heardTo mode kinds xs j) _ (omega arith) (heardAt mode kinds xs j));
+              listened =
+                  rw (c .listened, cast, add-one j, heard-more (ballotAt mode kinds xs) j)
+                  (counts-if (heardTo mode kinds xs j) _ (omega arith) (heardAt mode kinds xs j));
             }
 
     pub done : length xs ≤ from → VotesOf (ballots mode kinds xs) (record { all = all; heard = heard })

@@ -28,7 +28,7 @@ use Rattle.pilot_phase.specs.declared.PilotPhase.the-variants.{NoScatter
 use Rattle.pilot_phase.specs.declared.PhaseAnswer.{PhaseAnswer}
 use Rattle.pilot_phase.specs.declared.PhaseAnswer.the-variants.{Detected, Refused}
 use Rattle.pilot_phase.specs.PilotPhase.{voteOf, votesFrom, votes, heardFrom, countOf, countsOf, heardCounts}
-use Rattle.pilot_phase.specs.PilotPhase.{phaseOf, phaseCode, detected, phaseAnswer, noCounts, countsAnswer, leadBeside, leadAnswer}
+use Rattle.pilot_phase.specs.PilotPhase.{phaseOf, phaseCode, detected, phaseAnswer, noCounts, countsAnswer, leadBeside, leadAnswer, pilotsGiven}
 use Rattle.pilot_phase.specs.Facts.{votes-more, counts-at, count-few}
 
 -- ---- symbol after symbol
@@ -139,6 +139,18 @@ module _ (mode : Mode) (kinds : List ℕ) (xs : List Float) where
           let won = wonBy (countsOf vs) in
           let n : getD (countsOf vs) won 0 ≡ countOf vs won = counts-at vs won (won-phase (countsOf vs)) in
           omega (arith, lead-below (countsOf vs), n, count-few vs won, heard-length (ballotAt mode kinds xs) symbols)
+
+-- where no phase is told, it is 0: without scattered pilots, and beside a refusal
+pub no-phase-lead : (mode : ModeNumber) (kinds : List ℕ) (xs : List Float) → pilotsGiven (phaseAnswer mode kinds xs) 0 ≡ 0
+    → leadAnswer mode kinds xs ≡ 0
+unfolding leadAnswer
+no-phase-lead Unknown kinds xs e = refl
+no-phase-lead (Known m) kinds xs e = by (phaseAnswer (Known m) kinds xs) e
+  where
+    by : (a : PhaseAnswer) → pilotsGiven a 0 ≡ 0 → leadBeside a (leadOf (heardCounts (ballots m kinds xs))) ≡ 0
+    by (Detected (Phase p s)) e = absurd (omega arith)
+    by (Detected NoScatteredPilots) e = refl
+    by (Refused code) e = refl
 
 -- silence alone has lead 0: zeros of either sign (`canon` forgets the sign), whatever else is handed in
 pub zeros-lead : (mode : ModeNumber) (kinds : List ℕ) (xs : List Float) → ((i : ℕ) → i < length xs → canon (getD xs i nan) ≡ plusZero binary32)
