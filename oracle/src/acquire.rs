@@ -7,8 +7,12 @@
 use crate::complex;
 use crate::isdb::frame::{FrameLayout, SegmentKind};
 use crate::isdb::params::{GuardInterval, Mode, SEGMENTS};
-use crate::isdb::rx::acquire as oracle;
+use crate::isdb::rx::acquire::{self as oracle, Ballot};
 use crate::untouched::acquire as untouched;
+
+/// What `detect_sp_phase` gives: the phase, its share, the votes, and of each symbol its ballot; none
+/// without scattered pilots.
+pub type DetectedPhase = Option<(usize, f32, [usize; 4], Vec<Ballot>)>;
 
 /// The functions of acquisition in which a norm is taken, by one norm.
 pub trait Acquire {
@@ -29,10 +33,7 @@ pub trait Acquire {
         y_prev: &[Self::C32],
         kind: Option<SegmentKind>,
     ) -> f32;
-    fn detect_sp_phase(
-        layout: &FrameLayout,
-        spectra: &[Vec<Self::C32>],
-    ) -> Option<(usize, f32, [usize; 4])>;
+    fn detect_sp_phase(layout: &FrameLayout, spectra: &[Vec<Self::C32>]) -> DetectedPhase;
     fn samples_needed(modes: &[Mode], guards: &[GuardInterval], symbols: usize) -> usize;
     fn detect_mode(
         samples: &[Self::C32],
@@ -94,10 +95,7 @@ macro_rules! acquire {
                 $functions::tmcc_soft(layout, y, y_prev, kind)
             }
 
-            fn detect_sp_phase(
-                layout: &FrameLayout,
-                spectra: &[Vec<Self::C32>],
-            ) -> Option<(usize, f32, [usize; 4])> {
+            fn detect_sp_phase(layout: &FrameLayout, spectra: &[Vec<Self::C32>]) -> DetectedPhase {
                 $functions::detect_sp_phase(layout, spectra)
             }
 

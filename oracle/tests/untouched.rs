@@ -2,7 +2,7 @@
 //!
 //! An infinity beside a NaN departs with every C library, since `hypot` is infinite there by rule.
 
-use oracle::acquire::Untouched;
+use oracle::acquire::{Oracle, Untouched};
 use oracle::harness::call::{Call, Floats};
 use oracle::harness::function::Function;
 use oracle::harness::run;
@@ -51,7 +51,8 @@ fn a_function_without_a_norm_is_not_asked() {
 }
 
 /// One spectrum whose first pilot is an infinity and a NaN, the next of its phase 1. With the
-/// requirement's norm its phase is given 0 and wins; with `hypot` it is given NaN.
+/// requirement's norm its phase is given 0 and wins, and the symbol is silent; with `hypot` it is given
+/// NaN, and the symbol is heard.
 fn departing_phase() -> PhaseCall {
     let mut floats = vec![0.0; 2 * Mode::M1.total_carriers()];
     floats[..2].copy_from_slice(&[f32::INFINITY, f32::NAN]);
@@ -67,6 +68,13 @@ fn departing_phase() -> PhaseCall {
 fn a_departing_phase_is_no_difference() {
     let outcome = departing_phase().run(PhaseCall::LINKED, 1);
     assert_eq!((outcome.difference, outcome.departs), (None, Some(true)));
+}
+
+#[test]
+fn a_symbol_is_silent_by_one_norm_and_heard_by_the_other() {
+    let call = departing_phase();
+    assert_eq!(call.answer::<Oracle>().unwrap().lead, 0);
+    assert_eq!(call.answer::<Untouched>().unwrap().lead, 1);
 }
 
 #[test]

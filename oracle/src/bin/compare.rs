@@ -21,8 +21,9 @@ compare: the proved port beside the Rust
   --floats N  random inputs of each function of floats (default 100,000,000; with --quick
               15,000,000)
   --captures N
-              random calls of each operation of acquisition and of the grid, and changed
-              captures of each operation of acquisition (default 20,000; with --quick 4,000)
+              random calls of each operation of acquisition and of the grid, changed captures of
+              each operation of acquisition, and partly silent captures of the pilot phase
+              (default 20,000; with --quick 4,000)
   --only NAME nothing but one part: layout, floats, acquisition, grid or segments; or one
               operation, by the name of its C function without the prefix
   --help      this text

@@ -114,6 +114,8 @@ pub struct Band {
 const NOISE: [f32; 7] = [0.0, 0.01, 0.1, 0.3, 1.0, 3.0, 100.0];
 /// Factors.
 const SCALES: [f32; 5] = [1.0, 1.0, 1e-3, 1e4, 3e-9];
+/// Factors of a band of whole numbers.
+const WHOLE_SCALES: [f32; 4] = [30.0, 1000.0, 8192.0, 20000.0];
 
 impl Band {
     /// A random one.
@@ -131,6 +133,13 @@ impl Band {
             scale: if whole { 8192.0 } else { *rng.pick(&SCALES) },
             whole,
         }
+    }
+
+    /// A random one whose parts are whole numbers from −32,768 to 32,768.
+    pub fn of_whole_numbers(rng: &mut Rng, mode: Mode, choice: u16) -> Self {
+        let mut band = Self::new(rng, mode, choice);
+        (band.whole, band.scale) = (true, *rng.pick(&WHOLE_SCALES));
+        band
     }
 
     /// `count` spectra, one behind another.
@@ -251,7 +260,7 @@ fn specials(rng: &mut Rng, _: usize, floats: &mut [f32]) {
 }
 
 /// Units.
-fn quarters(rng: &mut Rng, _: usize, floats: &mut [f32]) {
+pub(super) fn quarters(rng: &mut Rng, _: usize, floats: &mut [f32]) {
     each_pair(floats, || quarter(rng));
 }
 
@@ -275,7 +284,7 @@ fn constant(rng: &mut Rng, _: usize, floats: &mut [f32]) {
 }
 
 /// Silence: zeros of one sign, or of both.
-fn silence(rng: &mut Rng, _: usize, floats: &mut [f32]) {
+pub(super) fn silence(rng: &mut Rng, _: usize, floats: &mut [f32]) {
     let mixed = rng.once_in(2);
     let zero = *rng.pick(&[0.0, -0.0]);
     each(
@@ -285,7 +294,7 @@ fn silence(rng: &mut Rng, _: usize, floats: &mut [f32]) {
 }
 
 /// Whole numbers as a recorder has them.
-fn whole_numbers(rng: &mut Rng, _: usize, floats: &mut [f32]) {
+pub(super) fn whole_numbers(rng: &mut Rng, _: usize, floats: &mut [f32]) {
     let limit = *rng.pick(&[1, 3, 100, 1 << 15]);
     each(floats, || draw::whole(rng, limit));
 }
@@ -323,7 +332,7 @@ fn periodic(rng: &mut Rng, len: usize, floats: &mut [f32]) {
 }
 
 /// Noise of one strength.
-fn noise(rng: &mut Rng, _: usize, floats: &mut [f32]) {
+pub(super) fn noise(rng: &mut Rng, _: usize, floats: &mut [f32]) {
     each(floats, || draw::noise(rng));
 }
 

@@ -130,9 +130,7 @@ pub fn spectra_to_change(
         rng.pick(&captures::WHOLE_FILLINGS)(rng, len, &mut floats);
         return floats;
     }
-    let mut band = Band::new(rng, mode, choice);
-    (band.whole, band.scale) = (true, *rng.pick(&[30.0, 1000.0, 8192.0, 20000.0]));
-    band.spectra(rng, places, count)
+    Band::of_whole_numbers(rng, mode, choice).spectra(rng, places, count)
 }
 
 #[cfg(test)]

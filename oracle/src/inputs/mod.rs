@@ -1,11 +1,12 @@
-//! What calls are made of: arguments around their boundaries, layouts, captures, samples, floats,
-//! changes of a capture, questions; whole captures that are stored; and what is timed.
+//! What calls are made of: arguments around their boundaries, layouts, captures, partly silent ones,
+//! samples, floats, changes of a capture, questions; whole captures that are stored; and what is timed.
 
 pub mod arguments;
 pub mod captures;
 pub mod changes;
 pub mod floats;
 pub mod layouts;
+pub mod partly_silent;
 pub mod questions;
 pub mod samples;
 pub mod timed;

@@ -1,7 +1,10 @@
 //! The pilot phase: which of the four places of scattered pilots the first spectrum has, by votes.
+//!
+//! A symbol, which is a spectrum, is heard if at least one of its four pilot sets has energy above zero;
+//! else it is silent. Silent symbols vote as heard ones do; the lead alone is without them.
 
 use super::Operation;
-use crate::acquire::{Acquire, Oracle, Untouched};
+use crate::acquire::{Acquire, DetectedPhase, Oracle, Untouched};
 use crate::codes::{KINDS, kind_bytes, kinds_of, kinds_of_choice, mode_of};
 use crate::harness::call::{Call, Floats, Unfilled, write_answer};
 use crate::harness::changed::{self, Claim, Verdict, accepted, both, differ, floats_differ};
@@ -18,11 +21,12 @@ use crate::inputs::arguments::{
 };
 use crate::inputs::captures::{self, Places, few, mostly_mode_1};
 use crate::inputs::changes::{Change, Changed, spectra_to_change};
+use crate::inputs::partly_silent::{self, Parts, one_set_alone};
 use crate::inputs::timed::{self, COHERENT, Capture, captures, of_spectra, row};
 use crate::inputs::whole::{Band, any_bytes};
 use crate::isdb::frame::FrameLayout;
 use crate::isdb::params::{Mode, SEGMENTS};
-use crate::isdb::rx::acquire;
+use crate::isdb::rx::acquire::{self, Ballot};
 use sillurwy::ffi;
 use std::fmt;
 use std::hint::black_box;
@@ -31,7 +35,13 @@ pub const OPERATION: Operation = Operation {
     name: "detect_sp_phase",
     number: Some(11),
     part: "acquisition",
-    streams: &[PhaseCall::STREAM, PhaseArguments::STREAM],
+    streams: &[
+        PhaseCall::STREAM,
+        PARTLY_SILENT,
+        EVERY_KINDS,
+        PhaseArguments::STREAM,
+        PartlySilent::STREAM,
+    ],
     compare,
     bench,
     stored,
@@ -51,9 +61,9 @@ pub struct PhaseOut<'a> {
     pub phase: &'a mut u8,
     /// Share.
     pub share: &'a mut f32,
-    /// Votes.
+    /// Votes of all symbols.
     pub counts: &'a mut [u32; 4],
-    /// Lead.
+    /// Lead, of the heard symbols alone.
     pub lead: &'a mut u32,
 }
 
@@ -73,9 +83,10 @@ pub struct PhaseCall {
 pub struct Phase {
     /// The phase and its share, if there are scattered pilots.
     pub found: Option<(u8, f32)>,
-    /// The votes for each phase.
+    /// The votes for each phase, of all symbols.
     pub counts: [u32; 4],
-    /// The largest count less the largest of the other three.
+    /// Of the votes of the heard symbols, each of which keeps its number: the largest count less the
+    /// largest of the other three. 0 where nothing is heard, and where there are no scattered pilots.
     pub lead: u32,
 }
 
@@ -96,25 +107,58 @@ pub fn lead(counts: [u32; 4]) -> u32 {
     sorted[3] - sorted[2]
 }
 
-/// The answer by a norm.
-pub fn answer<R: Acquire>(mode: u8, kinds: &[u8], spectra: &[f32]) -> Result<Phase, u8> {
+/// A symbol is heard if at least one of its four pilot sets has energy above zero, which a NaN is not.
+pub fn is_heard((_, energies): &Ballot) -> bool {
+    energies.iter().any(|&energy| energy > 0.0)
+}
+
+/// The votes for each phase.
+pub fn counts<'a>(ballots: impl IntoIterator<Item = &'a Ballot>) -> [u32; 4] {
+    let mut counts = [0; 4];
+    for &(vote, _) in ballots {
+        counts[vote] += 1;
+    }
+    counts
+}
+
+/// The votes for each phase of the heard symbols. The vote of each was turned back by its own number,
+/// whatever was silent before it.
+pub fn heard_counts(ballots: &[Ballot]) -> [u32; 4] {
+    counts(ballots.iter().filter(|ballot| is_heard(ballot)))
+}
+
+/// What the Rust gives by a norm, with the refusals in front.
+fn detected<R: Acquire>(mode: u8, kinds: &[u8], spectra: &[f32]) -> Result<DetectedPhase, u8> {
     let mode = mode_of(mode)?;
     let kinds = kinds_of(kinds)?;
     let len = mode.total_carriers();
     whole_spectra(spectra, len)?;
     let layout = FrameLayout::new(mode, kinds);
-    let Some((phase, share, votes)) = R::detect_sp_phase(&layout, &R::spectra(spectra, len)) else {
+    Ok(R::detect_sp_phase(&layout, &R::spectra(spectra, len)))
+}
+
+/// The ballots of the symbols: none where the call is refused, and where there are no scattered pilots.
+pub fn ballots(mode: u8, kinds: &[u8], spectra: &[f32]) -> Vec<Ballot> {
+    match detected::<Oracle>(mode, kinds, spectra) {
+        Ok(Some((_, _, _, ballots))) => ballots,
+        _ => Vec::new(),
+    }
+}
+
+/// The answer by a norm.
+pub fn answer<R: Acquire>(mode: u8, kinds: &[u8], spectra: &[f32]) -> Result<Phase, u8> {
+    let Some((phase, share, votes, ballots)) = detected::<R>(mode, kinds, spectra)? else {
         return Ok(Phase {
             found: None,
             counts: [0; 4],
             lead: 0,
         });
     };
-    let counts = votes.map(|count| u32::try_from(count).expect("at most 1,024 spectra vote"));
+    let count = |count| u32::try_from(count).expect("at most 1,024 spectra vote");
     Ok(Phase {
         found: Some((phase as u8, share)),
-        counts,
-        lead: lead(counts),
+        counts: votes.map(count),
+        lead: lead(heard_counts(&ballots)),
     })
 }
 
@@ -154,6 +198,11 @@ impl PhaseCall {
     /// The answer to this call by a norm.
     pub fn answer<R: Acquire>(&self) -> Result<Phase, u8> {
         answer::<R>(self.mode, &self.kinds, &self.spectra.0)
+    }
+
+    /// The ballots of its symbols.
+    pub fn ballots(&self) -> Vec<Ballot> {
+        ballots(self.mode, &self.kinds, &self.spectra.0)
     }
 }
 
@@ -248,11 +297,60 @@ impl Call for PhaseCall {
     }
 }
 
+/// The streams of the partly silent captures.
+const PARTLY_SILENT: u64 = 508;
+const EVERY_KINDS: u64 = 509;
+
+/// A choice of kinds; once in eight times all are of one kind.
+fn mostly_mixed(rng: &mut Rng) -> u16 {
+    match rng.below(16) {
+        0 => 0,
+        1 => KINDS - 1,
+        _ => rng.choice(),
+    }
+}
+
+/// A call of a partly silent capture, of some spectra.
+fn partly_silent_call(rng: &mut Rng, mode: Mode, choice: u16) -> PhaseCall {
+    let count = partly_silent::count(rng);
+    PhaseCall {
+        mode: mode.number(),
+        spectra: Floats(partly_silent::spectra(rng, mode, choice, count, Parts::Any)),
+        kinds: kind_bytes(choice).to_vec(),
+    }
+}
+
+/// One of the random calls of partly silent captures.
+pub fn random_partly_silent(seed: u64, index: u64) -> PhaseCall {
+    let rng = &mut Rng::for_case(seed, PARTLY_SILENT, index);
+    let (mode, choice) = (mostly_mode_1(rng), mostly_mixed(rng));
+    partly_silent_call(rng, mode, choice)
+}
+
+/// Random calls of partly silent captures.
+pub fn partly_silent_row(port: Port, seed: u64, cases: usize) -> Row {
+    let call = |index| random_partly_silent(seed, index as u64);
+    run::calls(port, cases, call).row("pilot phase, partly silent")
+}
+
+/// A partly silent capture of every choice of kinds, in mode 1: every choice has pilot sets of its own.
+pub fn every_kinds_row(port: Port, seed: u64) -> Row {
+    let call = |index| {
+        let rng = &mut Rng::for_case(seed, EVERY_KINDS, index as u64);
+        partly_silent_call(rng, Mode::M1, index as u16)
+    };
+    run::calls(port, KINDS.into(), call).row("pilot phase, every kinds")
+}
+
 fn compare(plan: &Plan) -> Vec<Row> {
+    let port = PhaseCall::LINKED;
     vec![
-        run::boundary::<PhaseCall>(PhaseCall::LINKED, plan.seed),
-        run::random::<PhaseCall>(PhaseCall::LINKED, plan.seed, plan.captures),
-        changed::claim::<PhaseArguments>(PhaseCall::LINKED, plan.seed, plan.captures),
+        run::boundary::<PhaseCall>(port, plan.seed),
+        run::random::<PhaseCall>(port, plan.seed, plan.captures),
+        partly_silent_row(port, plan.seed, plan.captures),
+        every_kinds_row(port, plan.seed),
+        changed::claim::<PhaseArguments>(port, plan.seed, plan.captures),
+        changed::claim::<PartlySilent>(port, plan.seed, plan.captures),
     ]
 }
 
@@ -285,6 +383,20 @@ impl PhaseArguments {
             lead,
         })
     }
+
+    /// Makes both calls: of the spectra as they are, and changed.
+    fn verdict_on(&self, port: Port, spectra: &[f32], change: &Change) -> Verdict {
+        let len = self.mode.total_carriers();
+        let before = self.ask(port, spectra);
+        let after = self.ask(port, &change.of(len, spectra));
+        both(&before, &after, |before, after| {
+            let share = |answer: &Phase| [answer.share().unwrap_or(0.0)];
+            differ("phase", before.phase(), after.phase())
+                .or_else(|| differ("counts", before.counts, after.counts))
+                .or_else(|| differ("lead", before.lead, after.lead))
+                .or_else(|| floats_differ("share", &share(before), &share(after)))
+        })
+    }
 }
 
 impl Claim for PhaseArguments {
@@ -297,11 +409,7 @@ impl Claim for PhaseArguments {
         let count = if rng.once_in(64) { 0 } else { few(rng) };
         let change = Change::random(rng, count);
         let whole = change.doublings > 0;
-        let choice = match rng.below(16) {
-            0 => 0,
-            1 => KINDS - 1,
-            _ => rng.choice(),
-        };
+        let choice = mostly_mixed(rng);
         Changed {
             floats: Floats(spectra_to_change(rng, mode, Places::Carriers, count, whole)),
             arguments: Self {
@@ -313,17 +421,42 @@ impl Claim for PhaseArguments {
     }
 
     fn verdict(port: Port, case: &Changed<Self>) -> Verdict {
-        let asked = &case.arguments;
-        let len = asked.mode.total_carriers();
-        let before = asked.ask(port, &case.floats.0);
-        let after = asked.ask(port, &case.change.of(len, &case.floats.0));
-        both(&before, &after, |before, after| {
-            let share = |answer: &Phase| [answer.share().unwrap_or(0.0)];
-            differ("phase", before.phase(), after.phase())
-                .or_else(|| differ("counts", before.counts, after.counts))
-                .or_else(|| differ("lead", before.lead, after.lead))
-                .or_else(|| floats_differ("share", &share(before), &share(after)))
-        })
+        case.arguments
+            .verdict_on(port, &case.floats.0, &case.change)
+    }
+}
+
+/// The other arguments, of a partly silent capture.
+#[derive(Debug, Clone, PartialEq, Eq, PartialOrd, Ord)]
+pub struct PartlySilent(pub PhaseArguments);
+
+impl Claim for PartlySilent {
+    const TITLE: &'static str = "pilot phase, partly silent, changed";
+    const STREAM: u64 = 606;
+    type Port = Port;
+
+    fn random(rng: &mut Rng) -> Changed<Self> {
+        let (mode, choice) = (mostly_mode_1(rng), mostly_mixed(rng));
+        let count = partly_silent::count(rng);
+        let change = Change::random(rng, count);
+        let parts = if change.doublings > 0 {
+            Parts::Whole
+        } else {
+            Parts::Any
+        };
+        Changed {
+            floats: Floats(partly_silent::spectra(rng, mode, choice, count, parts)),
+            arguments: Self(PhaseArguments {
+                mode,
+                kinds: kind_bytes(choice),
+            }),
+            change,
+        }
+    }
+
+    fn verdict(port: Port, case: &Changed<Self>) -> Verdict {
+        let Self(asked) = &case.arguments;
+        asked.verdict_on(port, &case.floats.0, &case.change)
     }
 }
 
@@ -366,13 +499,15 @@ fn bench(effort: &Effort) -> Vec<timing::Row> {
 
 // ---- Stored answers
 
-fn record(mode: u8, kinds: &[u8], floats: Vec<f32>) -> Record {
-    let spectra = Floats(floats);
-    let answer = answer::<Oracle>(mode, kinds, &spectra.0);
-    Record::of(&answer)
-        .number(mode)
-        .bytes(kinds)
-        .floats(&spectra)
+/// A record of a call, whose floats are given in one of their two forms.
+fn record_of(
+    mode: u8,
+    kinds: &[u8],
+    spectra: &[f32],
+    given: impl FnOnce(Record) -> Record,
+) -> Record {
+    let answer = answer::<Oracle>(mode, kinds, spectra);
+    given(Record::of(&answer).number(mode).bytes(kinds))
         .written(&answer, |a| vec![u8::from(a.found.is_some())])
         .written(&answer, |a| Vec::from_iter(a.phase()))
         .written(&answer, |a| Vec::from_iter(a.share()))
@@ -380,8 +515,56 @@ fn record(mode: u8, kinds: &[u8], floats: Vec<f32>) -> Record {
         .written(&answer, |a| vec![a.lead])
 }
 
-/// Of bands and of any numbers, of no spectrum, of silence, without scattered pilots; and refused
-/// by each number.
+/// Of whole numbers.
+fn record(mode: u8, kinds: &[u8], spectra: Vec<f32>) -> Record {
+    let spectra = Floats(spectra);
+    record_of(mode, kinds, &spectra.0, |record| record.floats(&spectra))
+}
+
+/// A band of so many symbols, of which some are silent.
+fn silent_at(rng: &mut Rng, band: Band, count: usize, silent: &[usize]) -> Record {
+    let mut floats = band.spectra(rng, Places::Carriers, count);
+    let one = 2 * Mode::M1.total_carriers();
+    for symbol in silent {
+        floats[symbol * one..(symbol + 1) * one].fill(0.0);
+    }
+    record(1, &kind_bytes(band.choice), floats)
+}
+
+/// Partly silent captures. Of each, the lead is another one over all symbols, or with another reading of
+/// which are heard.
+fn stored_partly_silent(rng: &mut Rng) -> Vec<Record> {
+    const CHOICE: u16 = 0b1_0010_1100_0110;
+    let kinds = kind_bytes(CHOICE);
+    let layout = FrameLayout::new(Mode::M1, kinds_of_choice(CHOICE));
+    let band = |phase| Band {
+        choice: CHOICE,
+        phase,
+        shift: 0,
+        noise: 10.0,
+    };
+    // Each pilot of phase 2 against the one before: its metric is below zero, and phase 0 is chosen.
+    let opposed = one_set_alone(&layout, 2, |at| match at % 2 {
+        0 => [60.0, 80.0],
+        _ => [-60.0, -80.0],
+    });
+    // In the first symbol the energy of phase 1 is NaN, in the second that of phase 3 is infinite.
+    let with = |part: f32| move |at| if at == 5 { [part, 1.0] } else { [1.0, -1.0] };
+    let unusual = [
+        one_set_alone(&layout, 1, with(f32::NAN)),
+        one_set_alone(&layout, 3, with(f32::INFINITY)),
+    ]
+    .concat();
+    vec![
+        silent_at(rng, band(2), 5, &[0, 1]),
+        silent_at(rng, band(0), 4, &[1, 3]),
+        record(1, &kinds, opposed),
+        record_of(1, &kinds, &unusual, |record| record.exact_floats(&unusual)),
+    ]
+}
+
+/// Of bands and of any numbers, of no spectrum, of silence, without scattered pilots; refused by each
+/// number; and of partly silent captures.
 fn stored(rng: &mut Rng) -> Vec<Record> {
     let one = 2 * Mode::M1.total_carriers();
     let mut band = |choice: u16, first, noise, count| {
@@ -410,6 +593,7 @@ fn stored(rng: &mut Rng) -> Vec<Record> {
         record(1, &[7; 13], any_bytes(rng, 11)),
         record(1, &some, any_bytes(rng, 11)),
     ]);
+    records.extend(stored_partly_silent(rng));
     records
 }
 
@@ -421,7 +605,7 @@ mod tests {
     fn every_refusal_is_stored_and_the_phases_of_bands_are_found() {
         let records = stored(&mut Rng::new(1));
         let codes: Vec<u8> = records.iter().map(Record::code).collect();
-        assert_eq!(codes, [0, 0, 0, 0, 0, 0, 1, 2, 2, 5]);
+        assert_eq!(codes, [0, 0, 0, 0, 0, 0, 1, 2, 2, 5, 0, 0, 0, 0]);
         for (record, phase) in records.iter().zip([2, 1]) {
             // Each behind how many are written, and that not all are alike.
             assert_eq!(record.answer()[..8], [1, 0, 0, 1, 1, 0, 0, phase]);
@@ -430,6 +614,50 @@ mod tests {
         let (counts, lead) = ([4, 0, 1, 0, 0, 0, 0], [1, 0, 0, 0, 0, 0, 0]);
         let none = [&[1, 0, 0, 0][..], &[0; 3], &[0; 3], &counts, &lead].concat();
         assert_eq!(records[2].answer(), none);
+    }
+
+    /// The counts, which are not all alike, and the lead of a stored answer, read from its end on. Each
+    /// is behind how many are written, and if all are alike.
+    fn counts_and_lead(record: &Record) -> ([u32; 4], u32) {
+        let number = |from_end: usize| {
+            let bytes = &record.answer()[record.answer().len() - from_end..];
+            u32::from_le_bytes(bytes[..4].try_into().expect("four bytes"))
+        };
+        ([23, 19, 15, 11].map(number), number(4))
+    }
+
+    #[test]
+    fn stored_leads_are_those_of_the_heard_symbols() {
+        for seed in 1..20 {
+            let records = stored(&mut Rng::new(seed));
+            let silence = counts_and_lead(&records[5]);
+            assert_eq!(silence, ([1, 0, 0, 0], 0));
+            let found = records[10..].iter().map(counts_and_lead);
+            let wanted = [
+                // The two silent symbols vote for 0 and 3.
+                ([1, 0, 3, 1], 3),
+                // They vote for 3 and 1. Numbered anew, the heard ones would vote for 0 and 1.
+                ([2, 1, 0, 1], 2),
+                ([1, 0, 0, 0], 1),
+                // The silent symbol votes for 0, the heard one for 3.
+                ([1, 0, 0, 1], 1),
+            ];
+            assert_eq!(found.collect::<Vec<_>>(), wanted);
+        }
+    }
+
+    #[test]
+    fn a_symbol_is_heard_by_any_energy_above_zero() {
+        let least = f32::from_bits(1);
+        let silent = [0.0, -0.0, f32::NAN, -f32::NAN];
+        assert!(!is_heard(&(0, silent)));
+        for energy in [least, 1.0, f32::MAX, f32::INFINITY] {
+            for set in 0..4 {
+                let mut energies = silent;
+                energies[set] = energy;
+                assert!(is_heard(&(3, energies)), "{energies:?}");
+            }
+        }
     }
 
     #[test]

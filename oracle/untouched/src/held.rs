@@ -10,7 +10,7 @@ use oracle::harness::value::Value;
 use oracle::isdb::frame::{FrameLayout, SegmentKind};
 use oracle::ops::detect_kinds::KindsCall;
 use oracle::ops::detect_mode::GuessCall;
-use oracle::ops::detect_sp_phase::PhaseCall;
+use oracle::ops::detect_sp_phase::{PhaseCall, heard_counts, lead};
 use oracle::ops::estimate_grid::GridCall;
 use oracle::ops::integer_cfo::ShiftCall;
 use oracle::ops::tmcc_soft::TmccCall;
@@ -21,7 +21,7 @@ use std::fmt::Debug;
 pub enum Departs {
     /// The answer: shift, kinds, phase, what was guessed.
     Answer,
-    /// Only a score, a ratio, votes and their share, a metric, a value or points of the grid.
+    /// Only a score, a ratio, votes, their share and the lead, a metric, a value or points of the grid.
     Float,
 }
 
@@ -64,6 +64,12 @@ impl Both {
     /// An answer.
     fn answer<T: PartialEq + Debug>(&mut self, name: &str, oracle: T, untouched: T) {
         self.answer |= oracle != untouched;
+        self.show(name, oracle, untouched);
+    }
+
+    /// Counts that stand beside the answer.
+    fn beside<T: PartialEq + Debug>(&mut self, name: &str, oracle: T, untouched: T) {
+        self.float |= oracle != untouched;
         self.show(name, oracle, untouched);
     }
 
@@ -150,12 +156,11 @@ impl Held for PhaseCall {
         let spectra = spectra_of(&self.spectra.0, mode.total_carriers());
         let found = acquire::detect_sp_phase(&layout, &spectra);
         let mut both = Both::default();
-        let phase = found.map(|(phase, _, _)| phase as u8);
+        let phase = found.as_ref().map(|&(phase, ..)| phase as u8);
         both.answer("phase", oracle.found.map(|(phase, _)| phase), phase);
-        if let (Some((_, one)), Some((_, other, votes))) = (oracle.found, found) {
-            let votes = votes.map(|count| count as u32);
-            both.float |= oracle.counts != votes;
-            both.show("votes", oracle.counts, votes);
+        if let (Some((_, one)), Some((_, other, votes, ballots))) = (oracle.found, found) {
+            both.beside("votes", oracle.counts, votes.map(|count| count as u32));
+            both.beside("lead", oracle.lead, lead(heard_counts(&ballots)));
             both.float("share", one, other);
         }
         Ok(both)

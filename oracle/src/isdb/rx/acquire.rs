@@ -1,7 +1,8 @@
 // Carried over from isdb-rs 754ed06c49 (Apache-2.0, see NOTICE).
 // From crates/isdbt-ofdm/src/rx/acquire.rs. Changed: the paths of the `use` lines and of
 // `pilot_value`; `num_complex::Complex64` is `C64`; `ModeGuess` has both parts of the summed
-// correlation in place of `cfo_frac`; `detect_sp_phase` hands out the votes beside its answer.
+// correlation in place of `cfo_frac`; `detect_sp_phase` hands out the votes and every symbol's ballot
+// beside its answer.
 
 //! Acquisition: mode / guard-interval detection, symbol timing and
 //! fractional CFO from guard-interval autocorrelation; integer CFO from
@@ -236,6 +237,10 @@ pub fn tmcc_soft(
         .sum()
 }
 
+/// One symbol in [`detect_sp_phase`]: the index of the vote that it raises, and the energies of the
+/// four pilot sets.
+pub type Ballot = (usize, [f32; 4]);
+
 /// Scattered-pilot phase detection (§3.12.2: SP at `c ≡ 3·(n mod 4) mod
 /// 12`).  For every symbol `j` and hypothesis `p`, the products of
 /// adjacent SPs (12 carriers apart) after removing the known BPSK values
@@ -245,13 +250,15 @@ pub fn tmcc_soft(
 pub fn detect_sp_phase(
     layout: &FrameLayout,
     spectra: &[Vec<C32>],
-) -> Option<(usize, f32, [usize; 4])> {
+) -> Option<(usize, f32, [usize; 4], Vec<Ballot>)> {
     if layout.sp[0].is_empty() {
         return None;
     }
     let mut votes = [0usize; 4];
+    let mut ballots = Vec::with_capacity(spectra.len());
     for (j, y) in spectra.iter().enumerate() {
         let mut best = (0usize, -1f32);
+        let mut ballot: Ballot = (0, [0f32; 4]);
         for p in 0..4 {
             let sp = &layout.sp[p];
             let mut acc = C32::default();
@@ -266,18 +273,21 @@ pub fn detect_sp_phase(
                 acc += vb * va.conj();
                 energy += va.norm() * vb.norm();
             }
+            ballot.1[p] = energy;
             let m = if energy > 0.0 { acc.re / energy } else { 0.0 };
             if m > best.1 {
                 best = (p, m);
             }
         }
         // n mod 4 = p = (j + c) mod 4  ⇒  c = (p − j) mod 4.
-        votes[(best.0 + 4 - j % 4) % 4] += 1;
+        ballot.0 = (best.0 + 4 - j % 4) % 4;
+        votes[ballot.0] += 1;
+        ballots.push(ballot);
     }
     let (c, n) = votes
         .iter()
         .enumerate()
         .max_by_key(|e| e.1)
         .map(|(c, &n)| (c, n))?;
-    Some((c, n as f32 / spectra.len().max(1) as f32, votes))
+    Some((c, n as f32 / spectra.len().max(1) as f32, votes, ballots))
 }
