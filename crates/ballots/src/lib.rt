@@ -33,13 +33,13 @@ pub struct Pilot {
     pub square: f64,
 }
 
-// How coherent the pilots of a phase are, and whether they have energy at all.
+// How coherent the pilots of a phase are, and whether they have energy, without which they are not heard.
 pub struct Coherence {
     pub metric: f32,
     pub heard: bool,
 }
 
-// What a symbol has to say of the phase.
+// What one symbol says of the phase.
 pub struct Ballot {
     // The phase with the greatest metric, as the symbol itself has it.
     pub choice: u8,
@@ -130,7 +130,8 @@ fn walk_segment(start: Run, y: &[f32], signs: &[u8], lowest: BandCarrier, count:
     run.join(pilot)
 }
 
-// How coherent the pilots of a phase are in the spectrum y. A NaN is not above zero.
+// How coherent the pilots of a phase are in the spectrum y, and whether they are heard: a NaN is not
+// above zero.
 fn phase_metric(layout: FrameLayout, y: &[f32], signs: &[u8], phase: u8) -> Coherence
     requires { ⌜ (phase < 4) × Spectrum (layout .mode) (length (now y)) (now signs) ⌝ }
     ensures { λ r. ⌜ CoherenceOf (layout .mode) (layout .kinds) (pairAt (now (y .entry))) phase r ⌝ }
@@ -173,7 +174,7 @@ fn phase_metric(layout: FrameLayout, y: &[f32], signs: &[u8], phase: u8) -> Cohe
     }
 }
 
-// The ballot of the spectrum y: the first phase with the greatest metric, and whether any has energy.
+// The ballot of the spectrum y: the first phase with the greatest metric, and whether any is heard.
 pub fn ballot_of(layout: FrameLayout, y: &[f32], signs: &[u8]) -> Ballot
     requires { ⌜ Spectrum (layout .mode) (length (now y)) (now signs) ⌝ }
     ensures { λ r. ⌜ r ≡ ballotOf (layout .mode) (layout .kinds) (pairAt (now (y .entry))) ⌝ }

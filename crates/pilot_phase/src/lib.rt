@@ -1,7 +1,7 @@
 // The scattered-pilot phase (acquire.rs of isdb-rs, `detect_sp_phase`). Every spectrum votes for the phase
 // of symbol 0 by its ballot, turned back; the votes are counted, and the phase with the most is answered.
-// Symbols in which no pilot was heard vote too, but the lead is worked out without them: a recording that
-// starts before the carrier is up would else be told by how much its silence agrees with itself.
+// Symbols in which no pilot was heard vote too, as in the Rust, but the lead is worked out without them:
+// recordings begin before the carrier is up.
 ghost use mathlib.Core.Path.{_≡_};
 ghost use lib.ListN.{length};
 ghost use Rattle.params.specs.Params.{modeFrom};

@@ -3,7 +3,7 @@
 use crate::{count, has_no_difference, keeps_the_claim, quiet_band};
 use oracle::acquire::Oracle;
 use oracle::codes::{kind_bytes, kinds_of_choice, mode_of};
-use oracle::harness::call::Call;
+use oracle::harness::call::{Call, Floats};
 use oracle::harness::rng::Rng;
 use oracle::inputs::captures::Places;
 use oracle::inputs::partly_silent::one_set_alone;
@@ -11,7 +11,7 @@ use oracle::isdb::frame::FrameLayout;
 use oracle::isdb::params::{Mode, SEGMENTS};
 use oracle::isdb::rx::acquire::Ballot;
 use oracle::ops::detect_sp_phase::{
-    PartlySilent, Phase, PhaseArguments, PhaseCall, Port, answer, every_kinds_row, is_heard,
+    PartlySilent, Phase, PhaseArguments, PhaseCall, Port, answer, every_kinds_row, is_heard, lead,
     partly_silent_row, random_partly_silent,
 };
 
@@ -131,6 +131,56 @@ fn a_set_that_is_not_chosen_makes_the_symbol_heard() {
     });
     let found = all_coherent(&opposed);
     assert_eq!((found.counts, found.lead), ([1, 0, 0, 0], 1));
+}
+
+/// The smallest inputs of docs/DIFFERENCES.md, under "The lead": floats that are not zero, how many
+/// spectra, the phase, the counts, the lead over all symbols and the lead.
+#[test]
+fn the_smallest_inputs_that_are_documented() {
+    type NotZero = &'static [(usize, f32)];
+    let documented: [(NotZero, usize, u8, [u32; 4], u32, u32); 6] = [
+        (&[], 1, 0, [1, 0, 0, 0], 1, 0),
+        (&[(0, f32::NAN)], 1, 0, [1, 0, 0, 0], 1, 0),
+        (&[(0, 1.0)], 1, 0, [1, 0, 0, 0], 1, 0),
+        (&[(0, 1e-30), (24, 1e-30)], 1, 0, [1, 0, 0, 0], 1, 0),
+        (&[(0, 1.0), (24, 1.0)], 1, 1, [0, 1, 0, 0], 1, 1),
+        (
+            &[(6, 1.0), (30, -1.0), (5638, 1.0), (5662, 1.0)],
+            3,
+            1,
+            [0, 2, 0, 1],
+            1,
+            2,
+        ),
+    ];
+    for (floats, count, phase, counts, before, now) in documented {
+        let mut spectra = vec![0.0; count * ONE];
+        for &(at, float) in floats {
+            spectra[at] = float;
+        }
+        let found = all_coherent(&spectra);
+        assert_eq!(found.found.map(|(phase, _)| phase), Some(phase));
+        assert_eq!((found.counts, found.lead), (counts, now), "{floats:?}");
+        assert_eq!(lead(found.counts), before);
+        let call = PhaseCall {
+            mode: 1,
+            spectra: Floats(spectra),
+            kinds: vec![0; SEGMENTS],
+        };
+        assert_eq!(call.run(PhaseCall::LINKED, 0).difference, None);
+    }
+}
+
+#[test]
+fn silence_led_by_up_to_1_while_it_counted() {
+    for silent in 0..=1024_usize {
+        let mut counts = [0; 4];
+        // Silence chooses phase 0.
+        for symbol in 0..silent {
+            counts[(4 - symbol % 4) % 4] += 1;
+        }
+        assert!(lead(counts) <= 1, "{silent}");
+    }
 }
 
 #[test]

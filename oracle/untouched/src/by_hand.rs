@@ -39,15 +39,28 @@ pub fn offset_departs() -> GuessCall {
     guess(&[(0, [9.0, 2.0]), (2048, [15.0, 0.0]), (4096, [7.0, -6.0])])
 }
 
-/// A pilot of an infinity and a NaN beside one of 1. The exact norm of the first is NaN and that
-/// phase is given 0; `hypot` is infinite there, the phase is given NaN, and the next one wins.
-pub fn phase_departs() -> PhaseCall {
+/// One spectrum of mode 1, all coherent, of zeros but for two pilots: one of an infinity and a NaN, and
+/// one of 1 that is its neighbour.
+fn odd_pilot(carrier: usize) -> PhaseCall {
+    let pilots = [
+        (carrier, [f32::INFINITY, f32::NAN]),
+        (carrier + 12, [1.0, 0.0]),
+    ];
     PhaseCall {
         mode: 1,
-        spectra: zeros_but(
-            Mode::M1.total_carriers(),
-            &[(0, [f32::INFINITY, f32::NAN]), (12, [1.0, 0.0])],
-        ),
+        spectra: zeros_but(Mode::M1.total_carriers(), &pilots),
         kinds: vec![0; SEGMENTS],
     }
+}
+
+/// The pilots are of phase 0. The exact norm of the first is NaN and that phase is given 0; `hypot` is
+/// infinite there, the phase is given NaN, and the next one wins.
+pub fn phase_departs() -> PhaseCall {
+    odd_pilot(0)
+}
+
+/// The pilots are of phase 1, and phase 0 wins on both sides. The energy of phase 1 is NaN, so that the
+/// symbol is silent; with `hypot` it is infinite, and the symbol is heard.
+pub fn lead_departs() -> PhaseCall {
+    odd_pilot(3)
 }

@@ -145,6 +145,7 @@ fn all_by_hand() {
     by_hand(&by_hand::metric_departs());
     by_hand(&by_hand::offset_departs());
     by_hand(&by_hand::phase_departs());
+    by_hand(&by_hand::lead_departs());
     println!();
 }
 
