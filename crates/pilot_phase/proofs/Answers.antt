@@ -25,11 +25,10 @@ use Rattle.ballots.specs.Inner.{somePilots}
 use Rattle.winner.specs.Winner.{shareOf, leadOf}
 use Rattle.winner.specs.Inner.{Won}
 use Rattle.pilot_phase.specs.declared.PilotPhase.the-variants.{NoScatteredPilots, Phase}
-use Rattle.pilot_phase.specs.declared.PhaseAnswer.{PhaseAnswer}
 use Rattle.pilot_phase.specs.declared.PhaseAnswer.the-variants.{Detected, Refused}
 use Rattle.pilot_phase.specs.declared.PilotAnswer.{PilotAnswer}
 use Rattle.pilot_phase.specs.declared.Votes.{Votes}
-use Rattle.pilot_phase.specs.PilotPhase.{votes, countOf, countsOf, phaseOf}
+use Rattle.pilot_phase.specs.PilotPhase.{votes, countOf, phaseOf}
 use Rattle.pilot_phase.specs.PilotPhase.{phaseCode, detected, phaseAnswer, countsAnswer, leadAnswer, phaseNumber, PhaseDetected}
 use Rattle.pilot_phase.specs.Inner.{Whole, VotesOf, Counted, lengthCode, Nothing, Told, acceptedCounts, Accepted}
 use Rattle.pilot_phase.specs.Facts.{phase-number, counts-at}

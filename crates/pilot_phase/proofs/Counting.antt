@@ -1,9 +1,9 @@
 -- What `count_votes` keeps: the counts of the votes of the spectra passed, and of those among them that were heard.
 -- Assumes nothing.
-use Prim.Native.Nat.{ℕ, suc, _+_, _*_, _-_, _≤_, _<_}
+use Prim.Native.Nat.{ℕ, _+_, _*_, _-_, _≤_, _<_}
 use mathlib.Core.Bool.{Bool, true, false, cond}
 use mathlib.Core.List.{List, [], _∷_, _++_, append-nil}
-use mathlib.Core.Path.{_≡_, refl, sym, ap, _∙_}
+use mathlib.Core.Path.{_≡_, refl, sym, _∙_}
 use native.Mathlib.Decide.{decLt, ℕ-discrete}
 use native.Mathlib.Nat.{le-of-eq, div-add-mod', mul-le-mul-right, lt-of-mul-lt-mul-right, suc-mul, zero-mul, add-zero, mul-left-comm}
 use native.Mathlib.Numerals.{add-one}
@@ -22,7 +22,6 @@ use Rattle.params.specs.Laws.{sized}
 use Rattle.spectra.specs.Spectra.{pairAt, spectraIn}
 use Rattle.ballots.specs.declared.Ballot.{Ballot}
 use Rattle.ballots.specs.Ballots.{ballotOf, spectrumAt, ballotAt, heardAt, ballots}
-use Rattle.pilot_phase.specs.declared.Votes.{Votes}
 use Rattle.pilot_phase.specs.PilotPhase.{voteOf, votesFrom, votes, heardFrom, countOf, countsOf}
 use Rattle.pilot_phase.specs.Facts.{votes-length, counts-length, counts-at, count-few, count-append, votes-more}
 use Rattle.pilot_phase.specs.Heard.{heard-more, heard-few}
