@@ -2,11 +2,11 @@
 -- the claim is about something: every change of every list exists, of spectra that are moved (`applied`) and of those that are not (`in-place`);
 -- samples are spectra of one pair.
 -- Assumes nothing.
-use Prim.Native.Nat.{ℕ, suc, _+_, _*_, _/_, _%_, _≤_, _<_}
+use Prim.Native.Nat.{ℕ, _+_, _*_, _/_, _%_, _<_}
 use mathlib.Core.Bool.{cond}
 use mathlib.Core.List.{List}
 use mathlib.Core.Path.{_≡_, refl, sym, ap, _∙_}
-use native.Mathlib.Nat.{add-zero, mul-comm, mul-le-mul-right, mul-assoc, suc-mul, mul-div-le, mod-eq-of-lt}
+use native.Mathlib.Nat.{add-zero, mod-eq-of-lt}
 use lib.Arith.{digits-div, digits-mod}
 use native.Mathlib.Omega.{arith}
 use lib.Dec.{eqb}
@@ -17,6 +17,7 @@ use Rattle.lists.specs.Lists.{upTo}
 use Rattle.lists.specs.Select.{length-upTo, getD-upTo}
 use Rattle.complex.specs.Complex.{Pair, pair}
 use Rattle.spectra.specs.Spectra.{pairAt}
+use Rattle.spectra.specs.Flat.{pair-inside}
 use Rattle.complex.specs.Changes.{Change, changedPair}
 use Rattle.spectra.specs.Changes.{Changed}
 use Rattle.shift.specs.Shift.{movedBin}
@@ -53,15 +54,7 @@ pair-changed c len s xs k h =
     getD-upTo f (length xs) (2 * k + 1) nan h ∙ rw (odd-part k, odd k) refl in
     λ j. pair (r j) (i j)
 
--- spectrum j, bin b: where the pair stands, and what stands there
-inside : (len j b n : ℕ) → j < n / (2 * len) → b < len → 2 * (j * len + b) + 1 < n
-inside len j b n J B =
-    let a : suc j * len ≤ n / (2 * len) * len = mul-le-mul-right len J in
-    let d : 2 * len * (n / (2 * len)) ≤ n = mul-div-le n (2 * len) in
-    let e : 2 * len * (n / (2 * len)) ≡ 2 * (n / (2 * len) * len) = mul-assoc 2 len (n / (2 * len)) ∙ ap (λ (z : ℕ). 2 * z) (mul-comm len (n / (2 * len))) in
-    let g : suc j * len ≡ j * len + len = suc-mul j len in
-    omega arith
-
+-- spectrum j, bin b: what stands there
 row : (len j b : ℕ) → b < len → (j * len + b) / len ≡ j
 row len j b B = digits-div j B
 
@@ -83,7 +76,7 @@ applied c len s xs =
           let L : 0 < len = omega arith in
           let m = movedBin len b s in
           let M : m < len = moved-below len b s L in
-          pair-changed c len s xs (j * len + m) (inside len j m (length xs) J M)
+          pair-changed c len s xs (j * len + m) (pair-inside len j m (length xs) J M)
           ∙ (λ i. changedPair c (row len j m M i) (pairAt xs (row len j m M i * len + movedBin len (column-of len j m M i) (negℤ s))))
           ∙ ap (λ (z : ℕ). changedPair c j (pairAt xs (j * len + z))) (back len b s L B);
     }

@@ -41,12 +41,12 @@ someBelow has zero = false
 someBelow has (suc p) = someBelow has p || has p
 
 -- `heard` says so
-pub record HeardTo (has : ℕ → Bool) (heard : Bool) (p : ℕ) : Type 0 where
+pub record SomeTo (has : ℕ → Bool) (heard : Bool) (p : ℕ) : Type 0 where
   pub some : heard ≡ someBelow has p
 
-module _ {has : ℕ → Bool} {heard : Bool} {p : ℕ} (s : HeardTo has heard p) where
-  pub heard-more : {m : Bool} → m ≡ has p → HeardTo has (heard || m) (p + 1)
-  heard-more e = record { some = rw (add-one p, s .some, e) }
+module _ {has : ℕ → Bool} {heard : Bool} {p : ℕ} (s : SomeTo has heard p) where
+  pub some-more : {m : Bool} → m ≡ has p → SomeTo has (heard || m) (p + 1)
+  some-more e = record { some = rw (add-one p, s .some, e) }
 
-  pub heard-all : p ≡ 4 → heard ≡ (has 0 || has 1 || has 2 || has 3)
-  heard-all z = rw z at (s .some)
+  pub some-of-four : p ≡ 4 → heard ≡ (has 0 || has 1 || has 2 || has 3)
+  some-of-four z = rw z at (s .some)

@@ -121,12 +121,12 @@ module _ {mode : Mode} {kinds : List ℕ} {y : List Float} {phase c : ℕ} where
       energy = rw all at (w .walked .energy)
 
       pub some-energy : lt (plusZero binary32) (run .energy) ≡ true
-          → CoherenceOf mode kinds (pairAt y) phase (record { metric = div binary32 (run .sum .re) (run .energy); heard = true })
+          → CoherenceOf mode kinds (pairAt y) phase (record { metric = div binary32 (run .sum .re) (run .energy); «has_energy» = true })
       unfolding phaseMetric
       some-energy t =
-          record { metric = rw (sym energy, t) (ap (λ (z : Pair). div binary32 (z .re) (run .energy)) sum); heard = rw (sym energy, t) }
+          record { metric = rw (sym energy, t) (ap (λ (z : Pair). div binary32 (z .re) (run .energy)) sum); energy = rw (sym energy, t) }
 
       pub no-energy : lt (plusZero binary32) (run .energy) ≡ false
-          → CoherenceOf mode kinds (pairAt y) phase (record { metric = plusZero binary32; heard = false })
+          → CoherenceOf mode kinds (pairAt y) phase (record { metric = plusZero binary32; «has_energy» = false })
       unfolding phaseMetric
-      no-energy t = record { metric = rw (sym energy, t); heard = rw (sym energy, t) }
+      no-energy t = record { metric = rw (sym energy, t); energy = rw (sym energy, t) }

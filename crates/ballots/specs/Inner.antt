@@ -82,7 +82,7 @@ pub record Spectrum (mode : Mode) (n : ℕ) (signs : List ℕ) : Type 0 where
 -- how coherent the pilots of a phase are in the spectrum y, and whether they have energy
 pub record CoherenceOf (mode : Mode) (kinds : List ℕ) (y : ℕ → Pair) (phase : ℕ) (r : Coherence) : Type 0 where
   pub metric : r .metric ≡ phaseMetric mode kinds y phase
-  pub heard : r .heard ≡ hasEnergy mode kinds y phase
+  pub energy : r .«has_energy» ≡ hasEnergy mode kinds y phase
 
 -- whether there are scattered pilots
 abbrev pub somePilots : Mode → List ℕ → Bool

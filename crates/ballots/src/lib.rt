@@ -33,10 +33,10 @@ pub struct Pilot {
     pub square: f64,
 }
 
-// How coherent the pilots of a phase are, and whether they have energy, without which they are not heard.
+// How coherent the pilots of a phase are, and whether they have energy.
 pub struct Coherence {
     pub metric: f32,
-    pub heard: bool,
+    pub has_energy: bool,
 }
 
 // What one symbol says of the phase.
@@ -130,7 +130,7 @@ fn walk_segment(start: Run, y: &[f32], signs: &[u8], lowest: BandCarrier, count:
     run.join(pilot)
 }
 
-// How coherent the pilots of a phase are in the spectrum y, and whether they are heard: a NaN is not
+// How coherent the pilots of a phase are in the spectrum y, and whether they have energy: a NaN is not
 // above zero.
 fn phase_metric(layout: FrameLayout, y: &[f32], signs: &[u8], phase: u8) -> Coherence
     requires { ⌜ (phase < 4) × Spectrum (layout .mode) (length (now y)) (now signs) ⌝ }
@@ -164,17 +164,17 @@ fn phase_metric(layout: FrameLayout, y: &[f32], signs: &[u8], phase: u8) -> Cohe
         let sum = run.sum;
         Coherence {
             metric: sum.re / run.energy,
-            heard: true,
+            has_energy: true,
         }
     } else {
         Coherence {
             metric: 0.0,
-            heard: false,
+            has_energy: false,
         }
     }
 }
 
-// The ballot of the spectrum y: the first phase with the greatest metric, and whether any is heard.
+// The ballot of the spectrum y: the first phase with the greatest metric, and whether any has energy.
 pub fn ballot_of(layout: FrameLayout, y: &[f32], signs: &[u8]) -> Ballot
     requires { ⌜ Spectrum (layout .mode) (length (now y)) (now signs) ⌝ }
     ensures { λ r. ⌜ r ≡ ballotOf (layout .mode) (layout .kinds) (pairAt (now (y .entry))) ⌝ }
@@ -189,7 +189,7 @@ pub fn ballot_of(layout: FrameLayout, y: &[f32], signs: &[u8]) -> Ballot
             best = phase;
             metric = m.metric;
         }
-        heard = heard | m.heard;
+        heard = heard | m.has_energy;
         phase += 1;
     }
     Ballot {

@@ -27,29 +27,29 @@ use Rattle.winner.specs.Inner.{Won}
 use Rattle.pilot_phase.specs.declared.PilotPhase.the-variants.{NoScatteredPilots, Phase}
 use Rattle.pilot_phase.specs.declared.PhaseAnswer.the-variants.{Detected, Refused}
 use Rattle.pilot_phase.specs.declared.PilotAnswer.{PilotAnswer}
-use Rattle.pilot_phase.specs.declared.Votes.{Votes}
+use Rattle.pilot_phase.specs.declared.VoteCounts.{VoteCounts}
 use Rattle.pilot_phase.specs.PilotPhase.{votes, countOf, phaseOf}
 use Rattle.pilot_phase.specs.PilotPhase.{phaseCode, detected, phaseAnswer, countsAnswer, leadAnswer, phaseNumber, PhaseDetected}
-use Rattle.pilot_phase.specs.Inner.{Whole, VotesOf, Counted, lengthCode, Nothing, Told, acceptedCounts, Accepted}
+use Rattle.pilot_phase.specs.Inner.{Whole, VoteCountsOf, Counted, lengthCode, Nothing, Told, acceptedCounts, Accepted}
 use Rattle.pilot_phase.specs.Facts.{phase-number, counts-at}
 use Rattle.pilot_phase.proofs.Counting.{votes-few}
 
--- ---- what votes tell
-pub told : {votes : Votes} {n won : ℕ} {share : Float} {lead : ℕ} → Won (votes .all) won → share ≡ shareOf (getD (votes .all) won 0) n
-    → lead ≡ leadOf (votes .heard) → Told votes n (record { answer = Detected (Phase won share); counts = votes .all; lead = lead })
+-- ---- what counts tell
+pub told : {counts : VoteCounts} {n won : ℕ} {share : Float} {lead : ℕ} → Won (counts .all) won → share ≡ shareOf (getD (counts .all) won 0) n
+    → lead ≡ leadOf (counts .heard) → Told counts n (record { answer = Detected (Phase won share); counts = counts .all; lead = lead })
 told v s l = record { answer = rw (s, v .won); same = refl; lead = l }
 
 -- ---- an accepted call
 module _ (m : Mode) (kinds : List ℕ) (xs : List Float) where
   -- the counts of so few spectra
-  pub few-counted : {cast : Votes} {k : ℕ} → Whole m (length xs) → k ≡ totalCarriers m → VotesOf (ballots m kinds xs) cast
-      → Counted (cast .all) (length xs / (2 * k))
-  few-counted {cast} {k} w e c =
+  pub few-counted : {counts : VoteCounts} {k : ℕ} → Whole m (length xs) → k ≡ totalCarriers m → VoteCountsOf (ballots m kinds xs) counts
+      → Counted (counts .all) (length xs / (2 * k))
+  few-counted {counts} {k} w e c =
       let vs = votes (ballots m kinds xs) in
       let total : length xs / (2 * k) ≤ 1024 = rw e (w .few) in
       record {
         each = λ p h.
-            let n : getD (cast .all) p 0 ≡ countOf vs p = rw (c .all) (counts-at vs p h) in
+            let n : getD (counts .all) p 0 ≡ countOf vs p = rw (c .all) (counts-at vs p h) in
             record { votes = omega (arith, n, votes-few m kinds xs p, w .few); spectra = total };
       }
 
@@ -59,10 +59,10 @@ module _ (m : Mode) (kinds : List ℕ) (xs : List Float) where
       let none : eqb (length (pilots m kinds 0)) 0 ≡ true = not-false _ p in
       record { answer = n .same ∙ rw none; counts = n .counts ∙ rw none; lead = n .lead ∙ rw none }
 
-  pub some-pilots : {r : PilotAnswer} {cast : Votes} {k : ℕ} → somePilots m kinds ≡ true → k ≡ totalCarriers m
-      → VotesOf (ballots m kinds xs) cast → Told cast (length xs / (2 * k)) r → Accepted m kinds xs r
+  pub some-pilots : {r : PilotAnswer} {counts : VoteCounts} {k : ℕ} → somePilots m kinds ≡ true → k ≡ totalCarriers m
+      → VoteCountsOf (ballots m kinds xs) counts → Told counts (length xs / (2 * k)) r → Accepted m kinds xs r
   unfolding detected acceptedCounts phaseOf
-  some-pilots {r} {cast} {k} p e c t =
+  some-pilots {r} {counts} {k} p e c t =
       let some : eqb (length (pilots m kinds 0)) 0 ≡ false = not-true _ p in
       let n : length xs / (2 * k) ≡ length (ballots m kinds xs) = rw e (sym (ballots-length m kinds xs)) in
       record { answer = t .answer ∙ rw (some, c .all, n); counts = t .same ∙ rw some (c .all); lead = t .lead ∙ rw (some, c .heard) }

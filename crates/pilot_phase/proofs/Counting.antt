@@ -22,12 +22,12 @@ use Rattle.params.specs.Laws.{sized}
 use Rattle.spectra.specs.Spectra.{pairAt, spectraIn}
 use Rattle.ballots.specs.declared.Ballot.{Ballot}
 use Rattle.ballots.specs.Ballots.{ballotOf, spectrumAt, ballotAt, heardAt, ballots}
-use Rattle.pilot_phase.specs.PilotPhase.{voteOf, votesFrom, votes, heardFrom, countOf, countsOf}
+use Rattle.pilot_phase.specs.PilotPhase.{voteOf, votesFrom, votes, heardVotesFrom, countOf, countsOf}
 use Rattle.pilot_phase.specs.Facts.{votes-length, counts-length, counts-at, count-few, count-append, votes-more}
 use Rattle.pilot_phase.specs.Heard.{heard-more, heard-few}
 use Rattle.ballots.specs.Changed.{ballot-alike}
 use Rattle.ballots.specs.Inner.{Spectrum}
-use Rattle.pilot_phase.specs.Inner.{Votable, VotesOf}
+use Rattle.pilot_phase.specs.Inner.{Votable, VoteCountsOf}
 
 -- ---- a vote more
 module _ (vs : List ℕ) (x : ℕ) (h : x < 4) where
@@ -83,11 +83,11 @@ unfolding ballots
 votes-few mode kinds xs v = omega (arith, count-few (votesTo mode kinds xs (spectraHere mode xs)) v, length-to mode kinds xs (spectraHere mode xs))
 
 -- those of them that were heard
-abbrev heardTo : Mode → List ℕ → List Float → ℕ → List ℕ
-heardTo mode kinds xs j = heardFrom 0 (upTo (ballotAt mode kinds xs) j)
+abbrev heardVotesTo : Mode → List ℕ → List Float → ℕ → List ℕ
+heardVotesTo mode kinds xs j = heardVotesFrom 0 (upTo (ballotAt mode kinds xs) j)
 
-heard-to : (mode : Mode) (kinds : List ℕ) (xs : List Float) (j : ℕ) → length (heardTo mode kinds xs j) ≤ j
-heard-to mode kinds xs j = omega (arith, heard-few 0 (upTo (ballotAt mode kinds xs) j), length-upTo (ballotAt mode kinds xs) j)
+heard-votes-few : (mode : Mode) (kinds : List ℕ) (xs : List Float) (j : ℕ) → length (heardVotesTo mode kinds xs j) ≤ j
+heard-votes-few mode kinds xs j = omega (arith, heard-few 0 (upTo (ballotAt mode kinds xs) j), length-upTo (ballotAt mode kinds xs) j)
 
 -- both are counted, and spectrum j starts at from; w is the code's count of a spectrum's floats
 pub record Counted (mode : Mode) (kinds : List ℕ) (xs : List Float) (w : ℕ) (all heard : List ℕ) (from j : ℕ) : Type 0 where
@@ -95,11 +95,11 @@ pub record Counted (mode : Mode) (kinds : List ℕ) (xs : List Float) (w : ℕ) 
   pub start : from ≡ j * w
   pub passed : j ≤ spectraHere mode xs
   pub counted : all ≡ countsOf (votesTo mode kinds xs j)
-  pub listened : heard ≡ countsOf (heardTo mode kinds xs j)
+  pub listened : heard ≡ countsOf (heardVotesTo mode kinds xs j)
 
 module _ {mode : Mode} {kinds : List ℕ} {xs : List Float} {w : ℕ} where
   pub begin : w ≡ 2 * totalCarriers mode → Counted mode kinds xs w (0 ∷ 0 ∷ 0 ∷ 0 ∷ []) (0 ∷ 0 ∷ 0 ∷ 0 ∷ []) 0 0
-  unfolding countsOf countOf votesFrom heardFrom
+  unfolding countsOf countOf votesFrom heardVotesFrom
   begin e = record { floats = e; start = sym (zero-mul w); passed = omega arith; counted = refl; listened = refl }
 
   module _ {signs : List ℕ} (p : Votable mode (length xs) signs) {all heard : List ℕ} {from j : ℕ} (c : Counted mode kinds xs w all heard from j) where
@@ -158,7 +158,7 @@ module _ {mode : Mode} {kinds : List ℕ} {xs : List Float} {w : ℕ} where
         few-votes = few (votesTo mode kinds xs j) (c .counted) (le-of-eq (length-to mode kinds xs j))
 
         pub few-heard : getD heard vote 0 + boolByte (b .heard) ≤ 1024
-        few-heard = omega (arith, few (heardTo mode kinds xs j) (c .listened) (heard-to mode kinds xs j), one-at-most (b .heard))
+        few-heard = omega (arith, few (heardVotesTo mode kinds xs j) (c .listened) (heard-votes-few mode kinds xs j), one-at-most (b .heard))
 
         pub again : Counted mode kinds xs w (set all vote (getD all vote 0 + 1)) (set heard vote (getD heard vote 0 + boolByte (b .heard))) (from + w) (j + 1)
         again =
@@ -169,10 +169,10 @@ module _ {mode : Mode} {kinds : List ℕ} {xs : List Float} {w : ℕ} where
               counted = rw (c .counted, cast, add-one j, votes-more (ballotAt mode kinds xs) j) (counts-more (votesTo mode kinds xs j) _ (omega arith));
               listened =
                   rw (c .listened, cast, add-one j, heard-more (ballotAt mode kinds xs) j)
-                  (counts-if (heardTo mode kinds xs j) _ (omega arith) (heardAt mode kinds xs j));
+                  (counts-if (heardVotesTo mode kinds xs j) _ (omega arith) (heardAt mode kinds xs j));
             }
 
-    pub done : length xs ≤ from → VotesOf (ballots mode kinds xs) (record { all = all; heard = heard })
+    pub done : length xs ≤ from → VoteCountsOf (ballots mode kinds xs) (record { all = all; heard = heard })
     unfolding ballots
     done h = let e = by (decLt j (spectraHere mode xs)) in record { all = rw e at (c .counted); heard = rw e at (c .listened) }
       where

@@ -120,7 +120,7 @@ pub counts-total : (mode : Mode) (kinds : List ℕ) (xs : List Float) → phaseC
 unfolding countsAnswer countsOf
 counts-total mode kinds xs accepted some = rw (accepted, some) (votes-total 0 (ballots mode kinds xs) ∙ ballots-length mode kinds xs)
 
--- without scattered pilots nothing is counted, whatever the number of spectra, so the lead is 0 (winner/specs/Facts)
+-- without scattered pilots nothing is counted, whatever the number of spectra
 pub none-counted : (mode : Mode) (kinds : List ℕ) (xs : List Float) → eqb (length (pilots mode kinds 0)) 0 ≡ true
     → countsAnswer (Known mode) kinds xs ≡ noCounts
 unfolding countsAnswer

@@ -27,57 +27,57 @@ use Rattle.winner.specs.Facts.{won-phase, lead-below, no-lead}
 use Rattle.pilot_phase.specs.declared.PilotPhase.the-variants.{NoScatteredPilots, Phase}
 use Rattle.pilot_phase.specs.declared.PhaseAnswer.{PhaseAnswer}
 use Rattle.pilot_phase.specs.declared.PhaseAnswer.the-variants.{Detected, Refused}
-use Rattle.pilot_phase.specs.PilotPhase.{voteOf, votesFrom, votes, heardFrom, countOf, countsOf, heardCounts}
+use Rattle.pilot_phase.specs.PilotPhase.{voteOf, votesFrom, votes, heardVotesFrom, countOf, countsOf, heardCounts}
 use Rattle.pilot_phase.specs.PilotPhase.{phaseOf, phaseCode, detected, phaseAnswer, noCounts, countsAnswer, leadBeside, leadAnswer, pilotsGiven}
 use Rattle.pilot_phase.specs.Facts.{votes-more, counts-at, count-few}
 
 -- ---- symbol after symbol
-pub heard-append : (j : ℕ) (bs cs : List Ballot) → heardFrom j (bs ++ cs) ≡ heardFrom j bs ++ heardFrom (j + length bs) cs
-unfolding heardFrom
+pub heard-append : (j : ℕ) (bs cs : List Ballot) → heardVotesFrom j (bs ++ cs) ≡ heardVotesFrom j bs ++ heardVotesFrom (j + length bs) cs
+unfolding heardVotesFrom
 heard-append j [] cs = let z : j + 0 ≡ j = omega arith in rw z
 heard-append j (b ∷ bs) cs =
     let z : j + suc (length bs) ≡ suc j + length bs = omega arith in
     rw (z, heard-append (suc j) bs cs) (by (b .heard))
   where
-    by : (t : Bool) → let rest = heardFrom (suc j + length bs) cs in let here = heardFrom (suc j) bs in let v = voteOf j (b .choice) in
+    by : (t : Bool) → let rest = heardVotesFrom (suc j + length bs) cs in let here = heardVotesFrom (suc j) bs in let v = voteOf j (b .choice) in
         cond t (v ∷ (here ++ rest)) (here ++ rest) ≡ cond t (v ∷ here) here ++ rest
     by true = refl
     by false = refl
 
-pub heard-few : (j : ℕ) (bs : List Ballot) → length (heardFrom j bs) ≤ length bs
-unfolding heardFrom
+pub heard-few : (j : ℕ) (bs : List Ballot) → length (heardVotesFrom j bs) ≤ length bs
+unfolding heardVotesFrom
 heard-few j [] = zero-le
 heard-few j (b ∷ bs) = by (b .heard) (heard-few (suc j) bs)
   where
-    by : (t : Bool) → let later = heardFrom (suc j) bs in length later ≤ length bs → length (cond t (voteOf j (b .choice) ∷ later) later) ≤ suc (length bs)
+    by : (t : Bool) → let later = heardVotesFrom (suc j) bs in length later ≤ length bs → length (cond t (voteOf j (b .choice) ∷ later) later) ≤ suc (length bs)
     by true h = omega arith
     by false h = omega arith
 
 module _ (f : ℕ → Ballot) where
   -- the vote of symbol n more, if it was heard
-  pub heard-more : (n : ℕ) → heardFrom 0 (upTo f (suc n)) ≡ heardFrom 0 (upTo f n) ++ cond (f n .heard) (voteOf n (f n .choice) ∷ []) []
-  unfolding heardFrom
+  pub heard-more : (n : ℕ) → heardVotesFrom 0 (upTo f (suc n)) ≡ heardVotesFrom 0 (upTo f n) ++ cond (f n .heard) (voteOf n (f n .choice) ∷ []) []
+  unfolding heardVotesFrom
   heard-more n = let z : 0 + n ≡ n = omega arith in heard-append 0 (upTo f n) (f n ∷ []) ∙ rw (length-upTo f n, z)
 
   -- there are as many votes as symbols heard
-  heard-length : (n : ℕ) → length (heardFrom 0 (upTo f n)) ≡ countBelow (λ j. f j .heard) n
-  unfolding heardFrom
+  heard-length : (n : ℕ) → length (heardVotesFrom 0 (upTo f n)) ≡ countBelow (λ j. f j .heard) n
+  unfolding heardVotesFrom
   heard-length zero = refl
   heard-length (suc n) = ap length (heard-more n) ∙ by (f n .heard) (heard-length n)
     where
-      by : (t : Bool) → let before = heardFrom 0 (upTo f n) in let count = countBelow (λ j. f j .heard) n in
+      by : (t : Bool) → let before = heardVotesFrom 0 (upTo f n) in let count = countBelow (λ j. f j .heard) n in
           length before ≡ count → length (before ++ cond t (voteOf n (f n .choice) ∷ []) []) ≡ cond t 1 0 + count
       by true e = simp length-append (omega arith)
       by false e = simp length-append (omega arith)
 
   -- none, where no symbol is heard; all, where every one is
-  none-heard : (n : ℕ) → ((j : ℕ) → j < n → f j .heard ≡ false) → heardFrom 0 (upTo f n) ≡ []
-  unfolding heardFrom
+  none-heard : (n : ℕ) → ((j : ℕ) → j < n → f j .heard ≡ false) → heardVotesFrom 0 (upTo f n) ≡ []
+  unfolding heardVotesFrom
   none-heard zero h = refl
   none-heard (suc n) h = heard-more n ∙ rw (h n (omega arith), none-heard n (λ j l. h j (omega arith)))
 
-  all-heard : (n : ℕ) → ((j : ℕ) → j < n → f j .heard ≡ true) → heardFrom 0 (upTo f n) ≡ votes (upTo f n)
-  unfolding heardFrom votesFrom
+  all-heard : (n : ℕ) → ((j : ℕ) → j < n → f j .heard ≡ true) → heardVotesFrom 0 (upTo f n) ≡ votes (upTo f n)
+  unfolding heardVotesFrom votesFrom
   all-heard zero h = refl
   all-heard (suc n) h =
       let here = h n (omega arith) in
@@ -132,7 +132,7 @@ module _ (mode : Mode) (kinds : List ℕ) (xs : List Float) where
       count = countBelow (heardAt mode kinds xs) symbols
 
       vs : List ℕ
-      vs = heardFrom 0 (upTo (ballotAt mode kinds xs) symbols)
+      vs = heardVotesFrom 0 (upTo (ballotAt mode kinds xs) symbols)
 
       few : leadOf (countsOf vs) ≤ count
       few =
@@ -140,7 +140,7 @@ module _ (mode : Mode) (kinds : List ℕ) (xs : List Float) where
           let n : getD (countsOf vs) won 0 ≡ countOf vs won = counts-at vs won (won-phase (countsOf vs)) in
           omega (arith, lead-below (countsOf vs), n, count-few vs won, heard-length (ballotAt mode kinds xs) symbols)
 
--- where no phase is told, it is 0: without scattered pilots, and beside a refusal
+-- where no phase is told, it is 0: without scattered pilots, and beside a refusal. With 0 lent, `pilotsGiven` is 0 exactly there
 pub no-phase-lead : (mode : ModeNumber) (kinds : List ℕ) (xs : List Float) → pilotsGiven (phaseAnswer mode kinds xs) 0 ≡ 0
     → leadAnswer mode kinds xs ≡ 0
 unfolding leadAnswer
@@ -152,7 +152,7 @@ no-phase-lead (Known m) kinds xs e = by (phaseAnswer (Known m) kinds xs) e
     by (Detected NoScatteredPilots) e = refl
     by (Refused code) e = refl
 
--- silence alone has lead 0: zeros of either sign (`canon` forgets the sign), whatever else is handed in
+-- so zeros alone have lead 0, of either sign (`canon` forgets it), whatever else is handed in
 pub zeros-lead : (mode : ModeNumber) (kinds : List ℕ) (xs : List Float) → ((i : ℕ) → i < length xs → canon (getD xs i nan) ≡ plusZero binary32)
     → leadAnswer mode kinds xs ≡ 0
 unfolding leadAnswer

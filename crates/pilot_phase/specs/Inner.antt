@@ -20,7 +20,7 @@ use Rattle.pilot_phase.specs.declared.PilotPhase.the-variants.{Phase}
 use Rattle.pilot_phase.specs.declared.PhaseAnswer.{PhaseAnswer}
 use Rattle.pilot_phase.specs.declared.PhaseAnswer.the-variants.{Detected}
 use Rattle.pilot_phase.specs.declared.PilotAnswer.{PilotAnswer}
-use Rattle.pilot_phase.specs.declared.Votes.{Votes}
+use Rattle.pilot_phase.specs.declared.VoteCounts.{VoteCounts}
 use Rattle.pilot_phase.specs.PilotPhase.{votes, countsOf, heardCounts, detected, noCounts, leadBeside}
 
 -- ---- the votes
@@ -34,8 +34,8 @@ pub record Votable (mode : Mode) (n : ℕ) (signs : List ℕ) : Type 0 where
   pub spectra : Whole mode n
   pub signed : signs ≡ bandSigns mode
 
--- the votes of all ballots, and of those that were heard
-pub record VotesOf (bs : List Ballot) (r : Votes) : Type 0 where
+-- the counts of the votes of all ballots, and of those that were heard
+pub record VoteCountsOf (bs : List Ballot) (r : VoteCounts) : Type 0 where
   pub all : r .all ≡ countsOf (votes bs)
   pub heard : r .heard ≡ heardCounts bs
 
@@ -54,11 +54,11 @@ pub record Nothing (answer : PhaseAnswer) (r : PilotAnswer) : Type 0 where
   pub counts : r .counts ≡ noCounts
   pub lead : r .lead ≡ 0
 
--- what these votes of `total` spectra tell: those of all symbols the phase and its share, those of the symbols heard the lead
-pub record Told (votes : Votes) (total : ℕ) (r : PilotAnswer) : Type 0 where
-  pub answer : r .answer ≡ Detected (Phase (wonBy (votes .all)) (shareOf (getD (votes .all) (wonBy (votes .all)) 0) total))
-  pub same : r .counts ≡ votes .all
-  pub lead : r .lead ≡ leadOf (votes .heard)
+-- what these counts of the votes of `total` spectra tell: those of all symbols the phase and its share, those of the symbols heard the lead
+pub record Told (counts : VoteCounts) (total : ℕ) (r : PilotAnswer) : Type 0 where
+  pub answer : r .answer ≡ Detected (Phase (wonBy (counts .all)) (shareOf (getD (counts .all) (wonBy (counts .all)) 0) total))
+  pub same : r .counts ≡ counts .all
+  pub lead : r .lead ≡ leadOf (counts .heard)
 
 -- the counts of an accepted call, and all that it answers
 unfoldable pub acceptedCounts : Mode → List ℕ → List Float → List ℕ

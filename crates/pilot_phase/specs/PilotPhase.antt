@@ -44,9 +44,9 @@ abbrev pub votes : List Ballot → List ℕ
 votes bs = votesFrom 0 bs
 
 -- those of the symbols that were heard, each turned back by its own number
-unfoldable pub heardFrom : ℕ → List Ballot → List ℕ
-heardFrom j [] = []
-heardFrom j (b ∷ bs) = let later = heardFrom (suc j) bs in cond (b .heard) (voteOf j (b .choice) ∷ later) later
+unfoldable pub heardVotesFrom : ℕ → List Ballot → List ℕ
+heardVotesFrom j [] = []
+heardVotesFrom j (b ∷ bs) = let later = heardVotesFrom (suc j) bs in cond (b .heard) (voteOf j (b .choice) ∷ later) later
 
 unfoldable pub countOf : List ℕ → ℕ → ℕ
 countOf [] v = 0
@@ -58,7 +58,7 @@ countsOf vs = upTo (countOf vs) 4
 
 -- the counts behind the lead
 abbrev pub heardCounts : List Ballot → List ℕ
-heardCounts bs = countsOf (heardFrom 0 bs)
+heardCounts bs = countsOf (heardVotesFrom 0 bs)
 
 -- two lists of counts, phase by phase; and counts whose votes are all turned back by n symbols
 abbrev pub plusCounts : List ℕ → List ℕ → List ℕ
@@ -97,12 +97,13 @@ countsAnswer (Known m) kinds xs =
     (cond (eqb (length (pilots m kinds 0)) 0) noCounts (countsOf (votes (ballots m kinds xs))))
     noCounts
 
--- the lead, of the symbols that were heard; 0 where no phase is told
+-- a lead stands beside a phase; where none is told it is 0
 abbrev pub leadBeside : PhaseAnswer → ℕ → ℕ
 leadBeside (Detected (Phase p s)) lead = lead
 leadBeside (Detected NoScatteredPilots) lead = 0
 leadBeside (Refused code) lead = 0
 
+-- the lead of the symbols that were heard
 unfoldable pub leadAnswer : ModeNumber → List ℕ → List Float → ℕ
 leadAnswer Unknown kinds xs = 0
 leadAnswer (Known m) kinds xs = leadBeside (phaseAnswer (Known m) kinds xs) (leadOf (heardCounts (ballots m kinds xs)))

@@ -1,13 +1,13 @@
 // The scattered-pilot phase (acquire.rs of isdb-rs, `detect_sp_phase`). Every spectrum votes for the phase
 // of symbol 0 by its ballot, turned back; the votes are counted, and the phase with the most is answered.
-// Symbols in which no pilot was heard vote too, as in the Rust, but the lead is worked out without them:
+// Symbols that were not heard vote too, as in the Rust, but the lead is worked out without them:
 // recordings begin before the carrier is up.
 ghost use mathlib.Core.Path.{_≡_};
 ghost use lib.ListN.{length};
 ghost use Rattle.params.specs.Params.{modeFrom};
 ghost use Rattle.ballots.specs.Ballots.{ballots};
 ghost use Rattle.pilot_phase.specs.PilotPhase.{PhaseDetected};
-ghost use Rattle.pilot_phase.specs.Inner.{Whole, Votable, VotesOf, Counted, Nothing, Told, lengthCode, Accepted};
+ghost use Rattle.pilot_phase.specs.Inner.{Whole, Votable, VoteCountsOf, Counted, Nothing, Told, lengthCode, Accepted};
 use frame::FrameLayout;
 use params::Mode;
 
@@ -31,16 +31,16 @@ pub struct PilotAnswer {
     pub lead: u32,
 }
 
-// The votes for each phase of symbol 0: of all symbols, and of those that were heard.
-pub struct Votes {
+// How many votes each phase of symbol 0 has: of all symbols, and of those that were heard.
+pub struct VoteCounts {
     pub all: [u32; 4],
     pub heard: [u32; 4],
 }
 
-// The votes of all spectra, counted, by the signs of the carriers.
-fn count_votes(layout: FrameLayout, spectra: &[f32], signs: &[u8]) -> Votes
+// The votes of all spectra, and of those that were heard, counted by the signs of the carriers.
+fn count_votes(layout: FrameLayout, spectra: &[f32], signs: &[u8]) -> VoteCounts
     requires { ⌜ Votable (layout .mode) (length (now spectra)) (now signs) ⌝ }
-    ensures { λ r. ⌜ VotesOf (ballots (layout .mode) (layout .kinds) (now (spectra .entry))) r ⌝ }
+    ensures { λ r. ⌜ VoteCountsOf (ballots (layout .mode) (layout .kinds) (now (spectra .entry))) r ⌝ }
 {
     let mode = layout.mode;
     let w = 2 * mode.total_carriers();
@@ -58,16 +58,16 @@ fn count_votes(layout: FrameLayout, spectra: &[f32], signs: &[u8]) -> Votes
         from = to;
         j += 1;
     }
-    Votes {
+    VoteCounts {
         all: all,
         heard: heard,
     }
 }
 
 // The same, by the signs of the band.
-fn all_votes(layout: FrameLayout, spectra: &[f32]) -> Votes
+fn band_votes(layout: FrameLayout, spectra: &[f32]) -> VoteCounts
     requires { ⌜ Whole (layout .mode) (length (now spectra)) ⌝ }
-    ensures { λ r. ⌜ VotesOf (ballots (layout .mode) (layout .kinds) (now (spectra .entry))) r ⌝ }
+    ensures { λ r. ⌜ VoteCountsOf (ballots (layout .mode) (layout .kinds) (now (spectra .entry))) r ⌝ }
 {
     let mode = layout.mode;
     let k = mode.total_carriers();
@@ -76,20 +76,20 @@ fn all_votes(layout: FrameLayout, spectra: &[f32]) -> Votes
     count_votes(layout, spectra, &buffer[..k])
 }
 
-// What the votes of `total` spectra tell.
-fn counted(votes: Votes, total: usize) -> PilotAnswer
-    requires { ⌜ Counted (votes .all) total ⌝ }
-    ensures { λ r. ⌜ Told votes total r ⌝ }
+// What the counts of the votes of `total` spectra tell.
+fn counted(counts: VoteCounts, total: usize) -> PilotAnswer
+    requires { ⌜ Counted (counts .all) total ⌝ }
+    ensures { λ r. ⌜ Told counts total r ⌝ }
 {
-    let counts = votes.all;
-    let heard = votes.heard;
-    let won = winner::won_by(counts);
-    let share = winner::share_of(counts[won], total);
+    let all = counts.all;
+    let heard = counts.heard;
+    let won = winner::won_by(all);
+    let share = winner::share_of(all[won], total);
     let phase = won as u8;
     let lead = winner::lead_of(heard);
     PilotAnswer {
         answer: PhaseAnswer::Detected(PilotPhase::Phase(phase, share)),
-        counts: counts,
+        counts: all,
         lead: lead,
     }
 }
@@ -115,7 +115,7 @@ fn accepted(layout: FrameLayout, spectra: &[f32]) -> PilotAnswer
     }
     let mode = layout.mode;
     let w = 2 * mode.total_carriers();
-    counted(all_votes(layout, spectra), spectra.len() / w)
+    counted(band_votes(layout, spectra), spectra.len() / w)
 }
 
 // The number that refuses the layout; or else 5 unless n floats are whole spectra, at most 1,024; or 0.

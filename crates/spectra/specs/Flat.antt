@@ -6,7 +6,7 @@ use mathlib.Core.List.{List, [], _∷_, _++_}
 use mathlib.Core.Logic.{_≢_}
 use mathlib.Core.Path.{_≡_, refl, sym, ap, _∙_}
 use native.Mathlib.Omega.{arith}
-use native.Mathlib.Nat.{le-of-suc-le-suc, not-suc-le-zero, zero-mul, zero-add, suc-mul, mul-one}
+use native.Mathlib.Nat.{le-of-suc-le-suc, not-suc-le-zero, zero-mul, zero-add, suc-mul, mul-one, mul-left-comm, mul-le-mul-right, div-add-mod'}
 use native.Mathlib.Decide.{decLe}
 use lib.ListN.{getD, set, length, length-set, take, drop, length-drop}
 use lib.Ieee.{Float, nan}
@@ -44,6 +44,12 @@ flat-own f n xs l h =
     entry : (i : ℕ) → Dec (i ≤ 2 * (i / 2)) → i < length xs → getD xs i nan ≡ getD (flat (upTo f n)) i nan
     entry i (yes g) b = let e : i ≡ 2 * (i / 2) = omega arith in rw e (ap (λ (p : Pair). p .re) (same (i / 2) (omega arith)))
     entry i (no g) b = let e : i ≡ 2 * (i / 2) + 1 = omega arith in rw e (ap (λ (p : Pair). p .im) (same (i / 2) (omega arith)))
+
+-- the pair of bin b of spectrum j lies within n floats
+pub pair-inside : (len j b n : ℕ) → j < spectraIn len n → b < len → 2 * (j * len + b) + 1 < n
+pair-inside len j b n l m =
+    let e : j * (2 * len) + 2 * len ≤ spectraIn len n * (2 * len) = rw (suc-mul j (2 * len)) at (mul-le-mul-right (2 * len) l) in
+    omega (arith, mul-left-comm j 2 len, div-add-mod' n (2 * len))
 
 -- ---- a list with v for its pair k
 pub length-with : (xs : List Float) (k : ℕ) (v : Pair) → length (withPair xs k v) ≡ length xs

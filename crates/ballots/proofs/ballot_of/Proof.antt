@@ -1,4 +1,4 @@
--- `ballots::ballot_of` meets its contract: the best so far, and the phases ahead, come to the choice, and a phase that has energy is heard.
+-- `ballots::ballot_of` meets its contract: the best so far, and the phases ahead, come to the choice, and the symbol is heard where a phase has energy.
 -- Assumes nothing.
 use Prim.Native.Nat.{_-_}
 use mathlib.Core.Logic.{⊎-elim}
@@ -6,14 +6,14 @@ use mathlib.Core.Path.{_≡_, refl}
 use native.Mathlib.Omega.{arith}
 use Rattle.spectra.specs.Spectra.{pairAt}
 use Rattle.ballots.specs.Ballots.{hasEnergy, phaseMetric, choiceOf, ballotOf}
-use Rattle.ballots.proofs.Chosen.{Ahead, take, pass, done, HeardTo, heard-more, heard-all}
+use Rattle.ballots.proofs.Chosen.{Ahead, take, pass, done, SomeTo, some-more, some-of-four}
 use Rattle.ballots.proofs.ballot_of.Statement.{statement}
 use Rattle.ballots.proofs.ballot_of.Tie as tie
 
 abbrev Inv-loop : tie.InvT-loop
 Inv-loop layout y signs best₀ metric₀ heard₀ phase₀ best metric heard phase =
     Ahead (phaseMetric (layout .mode) (layout .kinds) (pairAt y)) (choiceOf (layout .mode) (layout .kinds) (pairAt y)) best metric phase
-    × HeardTo (hasEnergy (layout .mode) (layout .kinds) (pairAt y)) heard phase
+    × SomeTo (hasEnergy (layout .mode) (layout .kinds) (pairAt y)) heard phase
 
 abbrev μ-loop : tie.MeasureT-loop
 μ-loop layout y signs best₀ metric₀ heard₀ phase₀ best metric heard phase = 4 - phase
@@ -39,7 +39,7 @@ loop-again c =
     let m = p .phase-metric .ensures in (
       ⊎-elim (λ w. rw (w .1, w .2) (take (l .inv .0) h (m .metric) (w .0 .taken))) (λ w. rw (w .1, w .2) (pass (l .inv .0) h (m .metric) (w .0 .left)))
           (c .before .if1 .came),
-      heard-more (l .inv .1) (m .heard),
+      some-more (l .inv .1) (m .energy),
     )
 
 returns : tie.Need-returns Inv-loop μ-loop
@@ -48,7 +48,7 @@ returns c =
     let l = c .before .loop in
     let four : l .phase ≡ 4 = omega (arith, l .inv .0 .passed, c .loop-test .left) in
     let choice = done (l .inv .0) (c .loop-test .left) in
-    let heard = heard-all (l .inv .1) four in
+    let heard = some-of-four (l .inv .1) four in
     λ i. record { choice = choice i; heard = heard i }
 
 pub ballot-of-spec : {M : Type 1} → statement M

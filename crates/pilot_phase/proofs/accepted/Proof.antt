@@ -26,8 +26,8 @@ total-carriers-requires c κs = search needs
 mul-w : tie.Need-mul-w
 mul-w c = omega (arith, c .total-carriers .ensures, sized (c .before .before .before .before .args .layout .mode) .band-high)
 
-all-votes-requires : tie.Need-all-votes-requires
-all-votes-requires c κs = c .before .before .before .before .pre
+band-votes-requires : tie.Need-band-votes-requires
+band-votes-requires c κs = c .before .before .before .before .pre
 
 div-counted : tie.Need-div-counted
 div-counted c =
@@ -38,7 +38,7 @@ counted-requires : tie.Need-counted-requires
 counted-requires c κs =
     let t = c .before in
     let s = t .before .before .before .before in
-    few-counted _ (s .args .layout .kinds) (s .args .spectra .now) (s .pre) (t .total-carriers .ensures) (c .all-votes .ensures)
+    few-counted _ (s .args .layout .kinds) (s .args .spectra .now) (s .pre) (t .total-carriers .ensures) (c .band-votes .ensures)
 
 returns-2 : tie.Need-returns-2
 returns-2 c =
@@ -46,7 +46,7 @@ returns-2 c =
     let h = t .before .before in
     let s = h .before .before .args in
     some-pilots _ (s .layout .kinds) (s .spectra .now) (sym (h .has-pilots .ensures) ∙ not-false _ (t .before .if1 .left)) (t .total-carriers .ensures)
-    (c .before .all-votes .ensures) (c .counted .ensures)
+    (c .before .band-votes .ensures) (c .counted .ensures)
 
 pub accepted-spec : {M : Type 1} → statement M
 accepted-spec =
@@ -57,7 +57,7 @@ accepted-spec =
     returns
     total-carriers-requires
     mul-w
-    all-votes-requires
+    band-votes-requires
     div-counted
     counted-requires
     returns-2)

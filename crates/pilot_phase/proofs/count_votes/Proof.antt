@@ -103,7 +103,7 @@ mul-heard-2 c = omega arith
 array-write-heard : tie.Need-array-write-heard Inv-loop μ-loop
 array-write-heard c = omega arith
 
--- whatever number of a symbol is added, its sum fits; that it is 1 is asked for by `loop-again`
+-- the sum fits also where `is_heard` is added in place of 1, so that a program which numbers symbols so is refused at `loop-again`
 add-j : tie.Need-add-j Inv-loop μ-loop
 add-j c =
     let b = c .before .before in

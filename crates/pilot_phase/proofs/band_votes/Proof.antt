@@ -1,10 +1,10 @@
--- `pilot_phase::all_votes` meets its contract: the front of the buffer holds the band's signs, and the votes are counted by them.
+-- `pilot_phase::band_votes` meets its contract: the front of the buffer holds the band's signs, and the votes are counted by them.
 -- Assumes nothing.
 use mathlib.Core.Path.{sym, _∙_}
 use borrow.Author.Needs.{needs}
 use Rattle.prbs.specs.Buffered.{room, front-length, written-room, written-front, written-length}
-use Rattle.pilot_phase.proofs.all_votes.Statement.{statement}
-use Rattle.pilot_phase.proofs.all_votes.Tie as tie
+use Rattle.pilot_phase.proofs.band_votes.Statement.{statement}
+use Rattle.pilot_phase.proofs.band_votes.Tie as tie
 
 total-carriers-requires : tie.Need-total-carriers-requires
 total-carriers-requires c κs = search needs
@@ -49,8 +49,8 @@ count-votes-requires c κs =
 returns : tie.Need-returns
 returns c = c .count-votes .ensures
 
-pub all-votes-spec : {M : Type 1} → statement M
-all-votes-spec =
+pub band-votes-spec : {M : Type 1} → statement M
+band-votes-spec =
     tie.close
     (tie.spec
     total-carriers-requires
