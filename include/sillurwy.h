@@ -231,15 +231,15 @@ uint8_t sillurwy_tmcc_soft(uint8_t mode, const uint8_t *kinds, size_t kinds_len,
  *   found         1 if there are scattered pilots, 0 if there are none; then phase and share keep
  *                 their contents. A refusal says neither: it leaves `found` as it was too
  *   phase, share  the phase, 0 to 3, and the share of the votes that it has
- *   counts        the votes for each phase, one of every spectrum, silent ones too: SILLURWY_PHASES
+ *   counts        the votes for each phase, one from every spectrum, heard or not: SILLURWY_PHASES
  *                 numbers; all 0 where found is 0
- *   lead          of the votes of the spectra that were heard, each with its own number: the
- *                 largest of their four counts less the largest of the other three. It is at most
- *                 the number of spectra heard; 0 where none is heard, and where found is 0. The
- *                 phase with the most of these votes can be another than the answer
+ *   lead          the votes of the spectra that were heard, each turned back by its place among all
+ *                 spectra, make four counts: the largest less the largest of the other three. It is
+ *                 at most the number of spectra heard; 0 where none is heard, and where found is 0.
+ *                 The phase with the most of these votes can be another than the answer
  * A spectrum is heard where the pilots of at least one of the four phases have energy above zero,
- * which a NaN is not. The energy is a sum, over the phase's pilots 12 carriers apart, of the product
- * of their sizes.
+ * which a NaN is not. The energy is summed in float over the pairs of the phase's pilots that lie 12
+ * carriers apart: the product of the two sizes, which is 0 where it is too small for a float.
  * Refused: 1 bad mode; 2 bad kinds; 5 not whole spectra, or too many. */
 uint8_t sillurwy_detect_sp_phase(uint8_t mode, const uint8_t *kinds, size_t kinds_len,
                                  const float *spectra, size_t spectra_len, uint8_t *found,

@@ -18,22 +18,22 @@ pub enum PilotPhase {
 pub struct PilotAnswer {
     /// The phase.
     pub phase: PilotPhase,
-    /// The votes for each phase, one of every spectrum, silent ones too; all 0 without scattered
-    /// pilots.
+    /// The votes for each phase, one from every spectrum, heard or not; all 0 without scattered pilots.
     pub counts: [u32; 4],
     /// Of the votes of the spectra that were heard: the largest of their four counts less the largest
     /// of the other three. At most the number of spectra heard; 0 where none is heard, and without
-    /// scattered pilots.
+    /// scattered pilots. The phase with the most of these votes can be another than the answer.
     pub lead: u32,
 }
 
 /// The phase of the scattered pilots in spectrum 0, the first; [`Phase::at`] has that of the others.
 ///
 /// Each spectrum has k_total pairs, by carrier, and votes once; there may be none. The lead leaves
-/// out the votes of silent spectra, as a recording has them that began before the carrier was up; the
-/// others keep their numbers. A spectrum is heard where the pilots of at least one of the four phases
-/// have energy above zero, which a NaN is not. The energy is a sum, over the phase's pilots 12
-/// carriers apart, of the product of their sizes.
+/// out the votes of spectra that were not heard: a recording begins with such if the carrier was not
+/// up yet. The others keep their places. A spectrum is heard where the pilots of at least one of the
+/// four phases have energy above zero, which a NaN is not. The energy is summed in `f32` over the
+/// pairs of the phase's pilots that lie 12 carriers apart: the product of the two sizes, which is 0
+/// where it is too small for an `f32`.
 ///
 /// Refused: [`BadFloats`](Refusal::BadFloats) unless whole spectra, at most
 /// [`MOST_SPECTRA`](crate::MOST_SPECTRA).
@@ -47,7 +47,7 @@ pub struct PilotAnswer {
 /// let answer = detect_sp_phase(Mode::M1, &[SegmentKind::Coherent; 13], &[])?;
 /// assert_eq!(answer.phase, PilotPhase::Phase(Phase::P3, 0.0));
 ///
-/// // Silence votes, and has no lead.
+/// // Zeros vote, and are not heard.
 /// let silence = [0.0; 2 * 1405];
 /// let answer = detect_sp_phase(Mode::M1, &[SegmentKind::Coherent; 13], &silence)?;
 /// assert_eq!((answer.counts, answer.lead), ([1, 0, 0, 0], 0));

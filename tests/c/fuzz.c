@@ -671,21 +671,21 @@ static void tmcc_soft(struct bytes *in)
     accepted(code, owed);
 }
 
-/* Floats of spectra of `pairs` pairs, some of them silent: zeros of either sign. */
-static const float *partly_silent(struct bytes *in, const char *name, size_t len, size_t pairs)
+/* Floats of spectra of `pairs` pairs, some of them all zeros, of either sign. */
+static const float *partly_zero(struct bytes *in, const char *name, size_t len, size_t pairs)
 {
     uint32_t *at = some_float_bits(in, name, len);
-    uint8_t silent = a_byte(in) < 128 ? a_byte(in) : 0;
+    uint8_t zero = a_byte(in) < 128 ? a_byte(in) : 0;
     for (size_t i = 0; i < len; i++) {
-        if (silent >> (i / (2 * pairs) % 8) & 1) {
+        if (zero >> (i / (2 * pairs) % 8) & 1) {
             at[i] &= 0x80000000;
         }
     }
     return (const float *)at;
 }
 
-/* How many spectra have a float that is not zero, without which none is heard. */
-static size_t not_silent(const float *spectra, size_t len, size_t pairs)
+/* How many spectra have a float that is not zero: no other is heard. */
+static size_t not_zero(const float *spectra, size_t len, size_t pairs)
 {
     size_t count = 0;
     for (size_t from = 0; from < len; from += 2 * pairs) {
@@ -704,7 +704,7 @@ static void detect_sp_phase(struct bytes *in)
     size_t k_total = bad_mode(mode) ? 1405 : SILLURWY_TOTAL_CARRIERS(mode);
     struct codes kinds = some_kinds(in);
     size_t len = some_spectra(in, k_total);
-    const float *spectra = partly_silent(in, "spectra", len, k_total);
+    const float *spectra = partly_zero(in, "spectra", len, k_total);
     uint8_t *found = a_buffer(in, "found", 1, 1);
     uint8_t *phase = a_buffer(in, "phase", 1, 1);
     float *share = a_float_buffer(in, "share", 1, sizeof *share);
@@ -724,7 +724,7 @@ static void detect_sp_phase(struct bytes *in)
     bool coherent = memchr(kinds.at, SILLURWY_COHERENT, kinds.len) != NULL;
     must(*found == (coherent ? 1 : 0), "found");
     must(votes == (coherent ? len / (2 * k_total) : 0), "counts");
-    must(*lead <= (coherent ? not_silent(spectra, len, k_total) : 0), "lead");
+    must(*lead <= (coherent ? not_zero(spectra, len, k_total) : 0), "lead");
     if (coherent) {
         must(*phase < 4, "phase");
         must(*share >= 0 && *share <= 1, "share");
