@@ -10,8 +10,8 @@ use crate::isdb::params::{GuardInterval, Mode, SEGMENTS};
 use crate::isdb::rx::acquire::{self as oracle, Ballot};
 use crate::untouched::acquire as untouched;
 
-/// What `detect_sp_phase` gives: the phase, its share, the votes, and of each symbol its ballot; none
-/// without scattered pilots.
+/// What `detect_sp_phase` gives: the phase, its share, the votes, and of each symbol a [`Ballot`]: the
+/// phase that it chooses and the energies of the four pilot sets. None without scattered pilots.
 pub type DetectedPhase = Option<(usize, f32, [usize; 4], Vec<Ballot>)>;
 
 /// The functions of acquisition in which a norm is taken, by one norm.

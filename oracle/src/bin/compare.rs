@@ -82,7 +82,7 @@ fn options() -> Options {
 }
 
 impl Options {
-    /// How many random cases the parts that ran were given.
+    /// How many random cases were given to the parts that ran, and to single operations.
     fn counts(&self) -> String {
         let Plan {
             calls,
@@ -95,7 +95,7 @@ impl Options {
             1 => "all layouts".to_string(),
             _ => format!("one layout in {spread}"),
         };
-        let of_parts = [
+        let given = [
             (
                 "layout",
                 format!(
@@ -114,10 +114,17 @@ impl Options {
                      acquisition"
                 ),
             ),
+            (
+                "detect_sp_phase",
+                ", and as many partly silent ones of the pilot phase".to_string(),
+            ),
             ("grid", format!(", {captures} random calls of the grid")),
         ];
-        let ran = |part: &str| self.operations.iter().any(|row| row.part == part);
-        let counts = of_parts.into_iter().filter(|(part, _)| ran(part));
+        let ran = |name: &str| {
+            let mut rows = self.operations.iter();
+            rows.any(|row| row.part == name || row.name == name)
+        };
+        let counts = given.into_iter().filter(|(name, _)| ran(name));
         counts.map(|(_, count)| count).collect()
     }
 }
@@ -185,6 +192,35 @@ mod tests {
     use oracle::codes::kind_bytes;
     use oracle::inputs::layouts;
     use std::collections::BTreeSet;
+
+    /// How many random cases are given to a part or an operation, as the last line has it.
+    fn counts(name: &str) -> String {
+        let rows = OPERATIONS.iter().copied();
+        let options = Options {
+            plan: Plan {
+                seed: 1,
+                calls: 2,
+                floats: 3,
+                captures: 4,
+                spread: SPREAD,
+            },
+            operations: rows
+                .filter(|row| row.part == name || row.name == name)
+                .collect(),
+        };
+        options.counts()
+    }
+
+    #[test]
+    fn partly_silent_captures_are_counted_where_there_are_such() {
+        let all = ", 4 random calls and changed captures of each operation of acquisition";
+        let partly_silent = ", and as many partly silent ones of the pilot phase";
+        assert_eq!(counts("integer_cfo"), all);
+        for name in ["acquisition", "detect_sp_phase"] {
+            assert_eq!(counts(name), [all, partly_silent].concat());
+        }
+        assert_eq!(counts("grid"), ", 4 random calls of the grid");
+    }
 
     #[test]
     fn the_quick_spread_meets_either_kind_of_each_segment_in_each_mode_and_phase() {

@@ -318,7 +318,7 @@ impl Maker {
         }
     }
 
-    /// Makes a symbol silent: mostly zeros of either sign.
+    /// Makes a symbol silent: in at least half of the cases by zeros of either sign.
     fn silence(&self, rng: &mut Rng, spectrum: &mut [f32]) {
         let (silent, _) = contents(self.parts);
         match rng.below(8) {
@@ -329,7 +329,7 @@ impl Maker {
         }
     }
 
-    /// Leaves a heard symbol as it is, or changes what makes it heard.
+    /// Leaves a heard symbol as it is, in at least half of the cases, or changes what makes it heard.
     fn disturb(&self, rng: &mut Rng, spectrum: &mut [f32]) {
         let (silent, heard) = contents(self.parts);
         match rng.below(8) {

@@ -1,7 +1,8 @@
 //! The pilot phase: which of the four places of scattered pilots the first spectrum has, by votes.
 //!
 //! A symbol, which is a spectrum, is heard if at least one of its four pilot sets has energy above zero;
-//! else it is silent. Silent symbols vote as heard ones do; the lead alone is without them.
+//! else it is silent. Silent symbols vote as heard ones do; the lead alone is without them. It is worked
+//! out from the ballots, of each symbol the phase that it chooses and the energies of the four sets.
 
 use super::Operation;
 use crate::acquire::{Acquire, DetectedPhase, Oracle, Untouched};
@@ -112,19 +113,26 @@ pub fn is_heard((_, energies): &Ballot) -> bool {
     energies.iter().any(|&energy| energy > 0.0)
 }
 
-/// The votes for each phase.
-pub fn counts<'a>(ballots: impl IntoIterator<Item = &'a Ballot>) -> [u32; 4] {
+/// The vote of a symbol, given with its number: the phase that it chooses, turned back by the number.
+pub fn vote((symbol, &(choice, _)): (usize, &Ballot)) -> usize {
+    (choice + 4 - symbol % 4) % 4
+}
+
+/// How many votes each phase has.
+pub fn counts(votes: impl IntoIterator<Item = usize>) -> [u32; 4] {
     let mut counts = [0; 4];
-    for &(vote, _) in ballots {
+    for vote in votes {
         counts[vote] += 1;
     }
     counts
 }
 
-/// The votes for each phase of the heard symbols. The vote of each was turned back by its own number,
-/// whatever was silent before it.
+/// The votes for each phase of the heard symbols. All symbols are numbered before the silent ones are
+/// left out, so each keeps its number.
 pub fn heard_counts(ballots: &[Ballot]) -> [u32; 4] {
-    counts(ballots.iter().filter(|ballot| is_heard(ballot)))
+    let numbered = ballots.iter().enumerate();
+    let heard = numbered.filter(|(_, ballot)| is_heard(ballot));
+    counts(heard.map(vote))
 }
 
 /// What the Rust gives by a norm, with the refusals in front.
@@ -137,7 +145,8 @@ fn detected<R: Acquire>(mode: u8, kinds: &[u8], spectra: &[f32]) -> Result<Detec
     Ok(R::detect_sp_phase(&layout, &R::spectra(spectra, len)))
 }
 
-/// The ballots of the symbols: none where the call is refused, and where there are no scattered pilots.
+/// The ballots of the symbols, the first one's first: none where the call is refused, and where there
+/// are no scattered pilots.
 pub fn ballots(mode: u8, kinds: &[u8], spectra: &[f32]) -> Vec<Ballot> {
     match detected::<Oracle>(mode, kinds, spectra) {
         Ok(Some((_, _, _, ballots))) => ballots,
@@ -658,6 +667,14 @@ mod tests {
                 assert!(is_heard(&(3, energies)), "{energies:?}");
             }
         }
+    }
+
+    #[test]
+    fn heard_symbols_keep_their_numbers() {
+        let (silent, heard) = ([0.0; 4], [0.0, 0.0, 0.0, 1.0]);
+        let ballots = [(0, silent), (1, heard), (0, silent), (3, heard), (2, heard)];
+        assert_eq!(heard_counts(&ballots), [2, 0, 1, 0]);
+        assert_eq!(counts(ballots.iter().enumerate().map(vote)), [3, 0, 2, 0]);
     }
 
     #[test]

@@ -11,8 +11,8 @@ use oracle::isdb::frame::FrameLayout;
 use oracle::isdb::params::{Mode, SEGMENTS};
 use oracle::isdb::rx::acquire::Ballot;
 use oracle::ops::detect_sp_phase::{
-    PartlySilent, Phase, PhaseArguments, PhaseCall, Port, answer, every_kinds_row, is_heard, lead,
-    partly_silent_row, random_partly_silent,
+    PartlySilent, Phase, PhaseArguments, PhaseCall, Port, answer, counts, every_kinds_row,
+    is_heard, lead, partly_silent_row, random_partly_silent, vote,
 };
 
 #[test]
@@ -44,9 +44,15 @@ fn no_spectra_and_no_pilots() {
 /// Floats of a spectrum in mode 1.
 const ONE: usize = 2 * 1405;
 
-/// The answer to spectra in mode 1, all segments coherent.
+/// The answer to spectra in mode 1, all segments coherent. The port gives it too.
 fn all_coherent(spectra: &[f32]) -> Phase {
-    answer::<Oracle>(1, &[0; SEGMENTS], spectra).unwrap()
+    let call = PhaseCall {
+        mode: 1,
+        spectra: Floats(spectra.to_vec()),
+        kinds: vec![0; SEGMENTS],
+    };
+    assert_eq!(call.run(PhaseCall::LINKED, 0).difference, None);
+    call.answer::<Oracle>().unwrap()
 }
 
 #[test]
@@ -64,6 +70,16 @@ fn silence_alone_votes_and_has_no_lead() {
             };
             assert_eq!(all_coherent(&vec![zero; count * ONE]), silence);
         }
+    }
+}
+
+#[test]
+fn over_all_symbols_silence_led_by_1_at_most() {
+    for count in (0..=9).chain([203, 205]) {
+        let found = all_coherent(&vec![0.0; count * ONE]);
+        // Four in a row vote for all four phases, and one that is left over leads.
+        let over_all = u32::from(count % 4 == 1);
+        assert_eq!((lead(found.counts), found.lead), (over_all, 0), "{count}");
     }
 }
 
@@ -134,52 +150,37 @@ fn a_set_that_is_not_chosen_makes_the_symbol_heard() {
 }
 
 /// The smallest inputs of docs/DIFFERENCES.md, under "The lead": floats that are not zero, how many
-/// spectra, the phase, the counts, the lead over all symbols and the lead.
+/// spectra, the phase and its share, the counts, the lead over all symbols and the lead.
 #[test]
 fn the_smallest_inputs_that_are_documented() {
     type NotZero = &'static [(usize, f32)];
-    let documented: [(NotZero, usize, u8, [u32; 4], u32, u32); 6] = [
-        (&[], 1, 0, [1, 0, 0, 0], 1, 0),
-        (&[(0, f32::NAN)], 1, 0, [1, 0, 0, 0], 1, 0),
-        (&[(0, 1.0)], 1, 0, [1, 0, 0, 0], 1, 0),
-        (&[(0, 1e-30), (24, 1e-30)], 1, 0, [1, 0, 0, 0], 1, 0),
-        (&[(0, 1.0), (24, 1.0)], 1, 1, [0, 1, 0, 0], 1, 1),
+    type Found = (u8, f32);
+    let two_thirds = f32::from_bits(0x3f2a_aaab);
+    let documented: [(NotZero, usize, Found, [u32; 4], u32, u32); 6] = [
+        (&[], 1, (0, 1.0), [1, 0, 0, 0], 1, 0),
+        (&[(0, f32::NAN)], 1, (0, 1.0), [1, 0, 0, 0], 1, 0),
+        (&[(0, 1.0)], 1, (0, 1.0), [1, 0, 0, 0], 1, 0),
+        (&[(0, 1e-30), (24, 1e-30)], 1, (0, 1.0), [1, 0, 0, 0], 1, 0),
+        (&[(0, 1.0), (24, 1.0)], 1, (1, 1.0), [0, 1, 0, 0], 1, 1),
         (
             &[(6, 1.0), (30, -1.0), (5638, 1.0), (5662, 1.0)],
             3,
-            1,
+            (1, two_thirds),
             [0, 2, 0, 1],
             1,
             2,
         ),
     ];
-    for (floats, count, phase, counts, before, now) in documented {
+    let bits = |(phase, share): Found| (phase, share.to_bits());
+    for (floats, count, wanted, counts, before, now) in documented {
         let mut spectra = vec![0.0; count * ONE];
         for &(at, float) in floats {
             spectra[at] = float;
         }
         let found = all_coherent(&spectra);
-        assert_eq!(found.found.map(|(phase, _)| phase), Some(phase));
+        assert_eq!(found.found.map(bits), Some(bits(wanted)));
         assert_eq!((found.counts, found.lead), (counts, now), "{floats:?}");
         assert_eq!(lead(found.counts), before);
-        let call = PhaseCall {
-            mode: 1,
-            spectra: Floats(spectra),
-            kinds: vec![0; SEGMENTS],
-        };
-        assert_eq!(call.run(PhaseCall::LINKED, 0).difference, None);
-    }
-}
-
-#[test]
-fn silence_led_by_up_to_1_while_it_counted() {
-    for silent in 0..=1024_usize {
-        let mut counts = [0; 4];
-        // Silence chooses phase 0.
-        for symbol in 0..silent {
-            counts[(4 - symbol % 4) % 4] += 1;
-        }
-        assert!(lead(counts) <= 1, "{silent}");
     }
 }
 
@@ -251,8 +252,17 @@ impl Met {
 
     /// A symbol chooses a phase whose set has no energy, and is heard.
     fn heard_by_another_set(&self) -> bool {
-        let mut ballots = self.ballots.iter().enumerate();
-        ballots.any(|(j, ballot)| is_heard(ballot) && ballot.1[(ballot.0 + j) % 4] == 0.0)
+        let mut ballots = self.ballots.iter();
+        ballots.any(|ballot| is_heard(ballot) && ballot.1[ballot.0] == 0.0)
+    }
+}
+
+#[test]
+fn the_ballots_give_the_counts() {
+    for met in (0..600).map(Met::new) {
+        let votes = met.ballots.iter().enumerate().map(vote);
+        let answer = met.call.answer::<Oracle>().unwrap();
+        assert_eq!(counts(votes), answer.counts);
     }
 }
 

@@ -7,7 +7,7 @@ use oracle::harness::call::{Call, write_answer};
 use oracle::isdb::rx::acquire::Ballot;
 use oracle::ops::detect_sp_phase::{
     PartlySilent, Phase, PhaseArguments, PhaseCall, PhaseOut, Port, answer, ballots, counts,
-    every_kinds_row, heard_counts, is_heard, lead, partly_silent_row, write,
+    every_kinds_row, heard_counts, is_heard, lead, partly_silent_row, vote, write,
 };
 
 /// The answer, changed where there are scattered pilots.
@@ -116,7 +116,7 @@ impl<'a> Asked<'a> {
         self.changed(|answer, ballots| {
             let numbered = ballots.iter().enumerate();
             let heard = numbered.filter(|&(symbol, ballot)| heard(symbol, ballot));
-            answer.lead = lead(counts(heard.map(|(_, ballot)| ballot)));
+            answer.lead = lead(counts(heard.map(vote)));
         })
     }
 
@@ -126,19 +126,10 @@ impl<'a> Asked<'a> {
     }
 }
 
-/// The phase that a symbol chooses.
-fn chosen(symbol: usize, &(vote, _): &Ballot) -> usize {
-    (vote + symbol) % 4
-}
-
-/// The heard symbols, numbered from 0 on.
-fn numbered_anew(ballots: &[Ballot]) -> Vec<Ballot> {
-    let numbered = ballots.iter().enumerate();
-    let heard = numbered.filter(|(_, ballot)| is_heard(ballot));
-    let anew = |(new, (symbol, ballot)): (usize, (usize, &Ballot))| {
-        ((chosen(symbol, ballot) + 4 - new % 4) % 4, ballot.1)
-    };
-    heard.enumerate().map(anew).collect()
+/// The votes for each phase of the heard symbols, which are numbered after the silent ones are left out.
+fn numbered_anew(ballots: &[Ballot]) -> [u32; 4] {
+    let heard = ballots.iter().filter(|ballot| is_heard(ballot));
+    counts(heard.enumerate().map(vote))
 }
 
 #[test]
@@ -150,9 +141,7 @@ fn the_reading_itself_is_right() {
     let from_first: Port = |mode, kinds, spectra, out| {
         Asked::new(mode, kinds, spectra, out).changed(|answer, ballots| {
             let first = ballots.iter().position(is_heard).unwrap_or(0);
-            let turned = |&(vote, energies): &Ballot| ((vote + first) % 4, energies);
-            let turned: Vec<Ballot> = ballots.iter().map(turned).collect();
-            answer.lead = lead(heard_counts(&turned));
+            answer.lead = lead(heard_counts(&ballots[first..]));
         })
     };
     for port in [right, from_first] {
@@ -167,7 +156,7 @@ fn symbols_that_are_wrongly_counted_in_the_lead_are_found() {
     });
     is_found_in_silence("numbered anew", 60, |mode, kinds, spectra, out| {
         Asked::new(mode, kinds, spectra, out)
-            .changed(|answer, ballots| answer.lead = lead(counts(&numbered_anew(ballots))))
+            .changed(|answer, ballots| answer.lead = lead(numbered_anew(ballots)))
     });
     is_found_in_silence(
         "from the first heard on",
@@ -175,7 +164,8 @@ fn symbols_that_are_wrongly_counted_in_the_lead_are_found() {
         |mode, kinds, spectra, out| {
             Asked::new(mode, kinds, spectra, out).changed(|answer, ballots| {
                 let first = ballots.iter().position(is_heard).unwrap_or(ballots.len());
-                answer.lead = lead(counts(&ballots[first..]));
+                let numbered = ballots.iter().enumerate();
+                answer.lead = lead(counts(numbered.skip(first).map(vote)));
             })
         },
     );
@@ -197,7 +187,7 @@ fn sets_that_are_not_looked_at_are_found() {
     });
     is_found_in_silence("the chosen one alone", 60, |mode, kinds, spectra, out| {
         Asked::new(mode, kinds, spectra, out)
-            .heard_by(|symbol, ballot| ballot.1[chosen(symbol, ballot)] > 0.0)
+            .heard_by(|_, &(choice, energies)| energies[choice] > 0.0)
     });
     is_found_in_silence("the first alone", 60, |mode, kinds, spectra, out| {
         Asked::new(mode, kinds, spectra, out).heard_where(|energies| energies[0] > 0.0)

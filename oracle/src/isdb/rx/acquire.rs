@@ -1,8 +1,9 @@
 // Carried over from isdb-rs 754ed06c49 (Apache-2.0, see NOTICE).
 // From crates/isdbt-ofdm/src/rx/acquire.rs. Changed: the paths of the `use` lines and of
 // `pilot_value`; `num_complex::Complex64` is `C64`; `ModeGuess` has both parts of the summed
-// correlation in place of `cfo_frac`; `detect_sp_phase` hands out the votes and every symbol's ballot
-// beside its answer.
+// correlation in place of `cfo_frac`; `detect_sp_phase` hands out, beside its answer, the
+// votes and of each symbol a `Ballot`: the phase that it chooses and the energies of the four pilot
+// sets.
 
 //! Acquisition: mode / guard-interval detection, symbol timing and
 //! fractional CFO from guard-interval autocorrelation; integer CFO from
@@ -237,8 +238,8 @@ pub fn tmcc_soft(
         .sum()
 }
 
-/// One symbol in [`detect_sp_phase`]: the index of the vote that it raises, and the energies of the
-/// four pilot sets.
+/// One symbol in [`detect_sp_phase`]: the phase that it chooses, and the energies of the four pilot
+/// sets.
 pub type Ballot = (usize, [f32; 4]);
 
 /// Scattered-pilot phase detection (§3.12.2: SP at `c ≡ 3·(n mod 4) mod
@@ -280,8 +281,8 @@ pub fn detect_sp_phase(
             }
         }
         // n mod 4 = p = (j + c) mod 4  ⇒  c = (p − j) mod 4.
-        ballot.0 = (best.0 + 4 - j % 4) % 4;
-        votes[ballot.0] += 1;
+        votes[(best.0 + 4 - j % 4) % 4] += 1;
+        ballot.0 = best.0;
         ballots.push(ballot);
     }
     let (c, n) = votes
