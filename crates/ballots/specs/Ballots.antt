@@ -1,6 +1,6 @@
 -- One ballot a symbol (acquire.rs, `detect_sp_phase`; document 01, "The pilot phase"). For each of the four phases, products of scattered pilots
 -- 12 carriers apart, their known signs multiplied in, add up coherently for the right phase alone. A symbol's ballot is the phase that comes out
--- best, and whether its pilots were heard at all.
+-- best, and whether its pilots were heard at all, which the lead asks (document 02, Ask 4).
 -- Definitions only.
 use Prim.Native.Nat.{ℕ, zero, suc, _+_, _*_}
 use mathlib.Core.Bool.{Bool, cond, _||_}
