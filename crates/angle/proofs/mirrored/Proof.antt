@@ -1,0 +1,19 @@
+-- `angle::mirrored` meets its contract.
+-- Assumes nothing.
+use native.Mathlib.Omega.{arith}
+use borrow.Author.Needs.{needs}
+use borrow.Author.Tests.{le-leb, lt-leb}
+use Rattle.angle.proofs.mirrored.Statement.{statement}
+use Rattle.angle.proofs.mirrored.Tie as tie
+
+sub-result : tie.Need-sub-result
+sub-result c = search needs
+
+returns : tie.Need-returns
+returns c = rw (le-leb 9223372036854775808 (c .before .args .bits) (omega arith))
+
+returns-2 : tie.Need-returns-2
+returns-2 c = rw (lt-leb 9223372036854775808 (c .before .args .bits) (omega arith))
+
+pub mirrored-spec : {M : Type 1} → statement M
+mirrored-spec = tie.close (tie.spec sub-result returns returns-2)
