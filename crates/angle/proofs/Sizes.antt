@@ -15,7 +15,7 @@ use Rattle.ieee.specs.Patterns.{low-value, mid-value}
 use Rattle.ieee.specs.Numbers.{split}
 use Rattle.angle.specs.Angle.{slope, around, circleOf, finite}
 use Rattle.angle.specs.Inner.{digits, exponent, sizeOf}
-use Rattle.angle.specs.Circle.{around-none}
+use Rattle.angle.specs.Circle.{around-none, around-scale}
 use Rattle.angle.specs.Facts.{circle-of-values}
 use Rattle.angle.proofs.Numbers.{moved}
 
@@ -175,8 +175,13 @@ pub bits-circle : (x y : ℕ) → x < 18446744073709551616 → y < 1844674407370
     → circleOf (ofBits binary64 x) (ofBits binary64 y)
     ≡ around (leb 9223372036854775808 x) (sizeOf (x % 9223372036854775808)) (leb 9223372036854775808 y) (sizeOf (y % 9223372036854775808))
 bits-circle x y X Y h k =
-    circle-of-values (ofBits binary64 x) (ofBits binary64 y) (leb 9223372036854775808 x) (sizeOf (x % 9223372036854775808))
-    (leb 9223372036854775808 y) (sizeOf (y % 9223372036854775808)) (2 ^ 1074) (pow-pos 1074) (bits-value x X h) (bits-value y Y k)
+    let l = leb 9223372036854775808 x in
+    let r = leb 9223372036854775808 y in
+    let a = sizeOf (x % 9223372036854775808) in
+    let b = sizeOf (y % 9223372036854775808) in
+    let u = pow-pos 1074 in
+    circle-of-values (ofBits binary64 x) (ofBits binary64 y) l r a (2 ^ 1074) b (2 ^ 1074) u u (bits-value x X h) (bits-value y Y k)
+    ∙ around-scale l a r b (2 ^ 1074) u
 
 pub zero-around : (s t : Bool) → around s (sizeOf 0) t (sizeOf 0) ≡ 0
 unfolding sizeOf digits

@@ -3,17 +3,16 @@
 -- of two leaves the angle as it is; on axes and diagonals it is exact; and its range.
 -- Assumes nothing.
 use mathlib.Core.Bool.{Bool, true, false, not, cond, _&&_}
-use mathlib.Core.Path.{_≡_, refl, sym, ap, _∙_, subst}
-use Prim.Native.Nat.{ℕ, zero, suc, _+_, _-_, _*_, _%_, _^_, _<_}
-use native.Mathlib.Nat.{zero-mul, mul-right-comm, mul-assoc, mul-comm, mul-pos}
+use mathlib.Core.Path.{_≡_, refl, sym, ap, _∙_}
+use Prim.Native.Nat.{ℕ, zero, suc, _+_, _-_, _*_, _%_, _<_}
+use native.Mathlib.Nat.{zero-mul, mul-pos}
 use native.Mathlib.Omega.{arith}
 use lib.Dec.{T, eqb, eqb→eq}
 use lib.IntN.{ℤ, pos, negsuc, _+ℤ_}
-use lib.Pow.{pow-pos}
 use lib.Ieee.{Float, nan, inf, fin, up, down, neg}
 use lib.Ieee.Exact.{HasValue}
-use lib.Ieee.Fits.{down-pos}
-use Rattle.ieee.specs.Times.{Times}
+use lib.Ieee.Fits.{up-pos, down-pos}
+use Rattle.ieee.specs.Times.{Times, by-values, same-times}
 use Rattle.complex.specs.Complex.{Pair, pair, conjugate}
 use Rattle.complex.specs.Changes.{turned}
 use Rattle.angle.specs.Angle.{around, sizeBeside, circleOf, signed, angleOf, AngleRange, roundCircle, mirrored, finite, isZero}
@@ -72,10 +71,6 @@ unfolding angleOf
 zeros-angle p h = ap signed (zeros-circle (p .re) (p .im) h)
 
 -- ---- a quarter turn of a finite pair that is not zero
-up-pos : (e : ℤ) → 0 < up e
-up-pos (pos n) = pow-pos n
-up-pos (negsuc n) = omega arith
-
 size-pos : (d e : ℤ) (m : ℕ) → 0 < m → 0 < sizeBeside d m e
 size-pos d e m h = mul-pos (mul-pos h (up-pos e)) (down-pos d)
 
@@ -109,50 +104,19 @@ pub conjugate-angle : (p : Pair) → angleOf (conjugate p) ≡ mirrored (angleOf
 unfolding angleOf
 conjugate-angle p = ap signed (conjugate-circle (p .re) (p .im)) ∙ signed-mirror (circleOf (p .re) (p .im)) (circle-most (p .re) (p .im))
 
--- ---- by values: the angle of ±a / c and ±b / c is that of ±a and ±b
-pub circle-of-values : (re im : Float) (s : Bool) (a : ℕ) (t : Bool) (b c : ℕ) → 0 < c → HasValue re s a c → HasValue im t b c → circleOf re im ≡ around s a t b
+-- ---- by values: the angle of ±a / c and ±b / d is that of ±a * d and ±b * c, and a common power of two makes no difference
+circle-is : (s : Bool) (m : ℕ) (e : ℤ) (t : Bool) (n : ℕ) (d : ℤ) → circleOf (fin s m e) (fin t n d) ≡ around s (m * up e * down d) t (n * up d * down e)
 unfolding circleOf
-circle-of-values nan im s a t b c C h k = absurd h
-circle-of-values (inf r) im s a t b c C h k = absurd h
-circle-of-values (fin r m e) nan s a t b c C h k = absurd k
-circle-of-values (fin r m e) (inf u) s a t b c C h k = absurd k
-circle-of-values (fin r m e) (fin u n d) s a t b c C h k =
-    let A : sizeBeside d m e * c ≡ a * (down e * down d) = crossed (m * up e) (down d) c a (down e) (h .1) in
-    let B : sizeBeside e n d * c ≡ b * (down e * down d) = crossed (n * up d) (down e) c b (down d) (k .1) ∙ ap (λ (z : ℕ). b * z) (mul-comm (down d) (down e)) in
-    sym (around-scale r (sizeBeside d m e) u (sizeBeside e n d) c C)
-    ∙ (λ i. around (h .0 i) (A i) (k .0 i) (B i))
-    ∙ around-scale s a t b (down e * down d) (mul-pos (down-pos e) (down-pos d))
-  where
-    crossed : (x y c a z : ℕ) → x * c ≡ a * z → x * y * c ≡ a * (z * y)
-    crossed x y c a z h = mul-right-comm x y c ∙ ap (λ (w : ℕ). w * y) h ∙ mul-assoc a z y
+circle-is s m e t n d = refl
 
--- ---- both parts times a power of two, where that is exact
+pub circle-of-values : (re im : Float) (s t : Bool) (a c b d : ℕ) → 0 < c → 0 < d → HasValue re s a c → HasValue im t b d
+    → circleOf re im ≡ around s (a * d) t (b * c)
+circle-of-values = by-values circleOf around circle-is (λ s t a b c C. around-scale s a t b c C)
+
 pub times-angle : (k : ℕ) (p q : Pair) → Times k (p .re) (q .re) → Times k (p .im) (q .im) → angleOf q ≡ angleOf p
 unfolding angleOf
 times-angle k p q g h =
-    let a = g .up in
-    let c = g .over in
-    let b = h .up in
-    let d = h .over in
-    let x : around (g .sign) (a * 2 ^ k * d) (h .sign) (b * 2 ^ k * c) ≡ around (g .sign) (a * d) (h .sign) (b * c) =
-    (λ i. around (g .sign) (mul-right-comm a (2 ^ k) d i) (h .sign) (mul-right-comm b (2 ^ k) c i))
-    ∙ around-scale (g .sign) (a * d) (h .sign) (b * c) (2 ^ k) (pow-pos k) in
-    ap signed
-    (circle-over (q .re) (q .im) (g .sign) (a * 2 ^ k) c (h .sign) (b * 2 ^ k) d (g .some) (h .some) (g .there) (h .there)
-    ∙ x
-    ∙ sym (circle-over (p .re) (p .im) (g .sign) a c (h .sign) b d (g .some) (h .some) (g .here) (h .here)))
-  where
-    wider : (x : Float) (s : Bool) (a c d : ℕ) → HasValue x s a c → HasValue x s (a * d) (c * d)
-    wider nan s a c d h = absurd h
-    wider (inf t) s a c d h = absurd h
-    wider (fin t m e) s a c d h = (h .0, sym (mul-assoc (m * up e) c d) ∙ ap (λ (z : ℕ). z * d) (h .1) ∙ mul-right-comm a (down e) d)
-
-    -- over two denominators
-    circle-over : (re im : Float) (s : Bool) (a c : ℕ) (t : Bool) (b d : ℕ) → 0 < c → 0 < d → HasValue re s a c → HasValue im t b d
-        → circleOf re im ≡ around s (a * d) t (b * c)
-    circle-over re im s a c t b d C D h k =
-        circle-of-values re im s (a * d) t (b * c) (c * d) (mul-pos C D) (wider re s a c d h)
-        (subst (λ (z : ℕ). HasValue im t (b * c) z) (mul-comm d c) (wider im t b d c k))
+    ap signed (sym (same-times circleOf around circle-is (λ s t a b c C. around-scale s a t b c C) k (p .re) (q .re) (p .im) (q .im) g h))
 
 -- ---- axes and diagonals, and so (1, 0)
 module _ (s t : Bool) (m : ℕ) (e d : ℤ) (h : 0 < m) where

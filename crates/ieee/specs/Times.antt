@@ -5,6 +5,7 @@ use mathlib.Core.Path.{_≡_, refl, sym, ap, _∙_}
 use mathlib.Core.Bool.{Bool, true, false, _||_, cond}
 use Prim.Native.Nat.{ℕ, zero, suc, _+_, _*_, _^_, _<_}
 use native.Mathlib.Nat.{zero-lt-suc, zero-mul, add-mul, mul-assoc, mul-comm, mul-right-comm, mul-mul-mul-comm, mul-pos}
+use borrow.Author.Tests.{ne-eqb}
 use lib.IntN.{ℤ, pos}
 use lib.Dec.{ltb, eqb, eqb·suc-zero}
 use lib.Pow.{pow-pos}
@@ -12,7 +13,7 @@ use lib.Ieee.{Float, nan, inf, fin, Format, up, down, unlike, round, below, leve
 use lib.Ieee.Fits.{up-pos, down-pos}
 use lib.Ieee.Exact.{HasValue}
 use lib.Ieee.Scale.{round-same}
-use Rattle.ieee.specs.Numbers.{ltb-scale, eqb-scale, zero-scale}
+use Rattle.ieee.specs.Numbers.{ltb-scale, eqb-scale, zero-scale, no-product}
 
 pub record Times (k : ℕ) (x y : Float) : Type 0 where
   pub sign : Bool
@@ -56,7 +57,7 @@ common x e g a c d h = mul-mul-mul-comm x g c d ∙ (λ i. h i * mul-comm g d i)
 module _ {A : Type 0} (R : Float → Float → A) (P : Bool → ℕ → Bool → ℕ → A)
     (is : (s : Bool) (m : ℕ) (e : ℤ) (t : Bool) (n : ℕ) (d : ℤ) → R (fin s m e) (fin t n d) ≡ P s (m * up e * down d) t (n * up d * down e))
     (scale : (s t : Bool) (a b c : ℕ) → 0 < c → P s (a * c) t (b * c) ≡ P s a t b) where
-  by-values : (x u : Float) (s t : Bool) (a c b d : ℕ) → 0 < c → 0 < d → HasValue x s a c → HasValue u t b d → R x u ≡ P s (a * d) t (b * c)
+  pub by-values : (x u : Float) (s t : Bool) (a c b d : ℕ) → 0 < c → 0 < d → HasValue x s a c → HasValue u t b d → R x u ≡ P s (a * d) t (b * c)
   by-values nan u s t a c b d C D h k = absurd h
   by-values (inf z) u s t a c b d C D h k = absurd h
   by-values (fin z m e) nan s t a c b d C D h k = absurd k
@@ -69,8 +70,8 @@ module _ {A : Type 0} (R : Float → Float → A) (P : Bool → ℕ → Bool →
       ∙ (λ i. P (h .0 i) (common (m * up e) (down e) (down g) a c d (h .1) i) (k .0 i) (B i))
       ∙ scale s t (a * d) (b * c) (down e * down g) (mul-pos (down-pos e) (down-pos g))
 
-  same : (k : ℕ) (x y u v : Float) → Times k x y → Times k u v → R x u ≡ R y v
-  same k x y u v h g =
+  pub same-times : (k : ℕ) (x y u v : Float) → Times k x y → Times k u v → R x u ≡ R y v
+  same-times k x y u v h g =
       by-values x u (h .sign) (g .sign) (h .up) (h .over) (g .up) (g .over) (h .some) (g .some) (h .here) (g .here)
       ∙ sym (scale (h .sign) (g .sign) (h .up * g .over) (g .up * h .over) (2 ^ k) (pow-pos k))
       ∙ (λ i. P (h .sign) (mul-right-comm (h .up) (g .over) (2 ^ k) i) (g .sign) (mul-right-comm (g .up) (h .over) (2 ^ k) i))
@@ -78,10 +79,10 @@ module _ {A : Type 0} (R : Float → Float → A) (P : Bool → ℕ → Bool →
 
 -- ---- comparisons
 pub lt-times : (k : ℕ) (x y u v : Float) → Times k x y → Times k u v → lt x u ≡ lt y v
-lt-times = same lt below (λ s m e t n d. unfold lt in refl) below-scale
+lt-times = same-times lt below (λ s m e t n d. unfold lt in refl) below-scale
 
 pub le-times : (k : ℕ) (x y u v : Float) → Times k x y → Times k u v → le x u ≡ le y v
-le-times = same le most (λ s m e t n d. unfold le in refl) most-scale
+le-times = same-times le most (λ s m e t n d. unfold le in refl) most-scale
 
 -- ---- quotients: for every divisor, a zero too
 abbrev over : Format → Bool → ℕ → Bool → ℕ → Float
@@ -101,4 +102,11 @@ div-is f s m e t n d = λ i. cond (part n d e i) (cond (part m e d i) nan (inf (
     part n d e = sym (zero-scale (n * up d) (down e) (down-pos e) ∙ zero-scale n (up d) (up-pos d))
 
 pub quotient-times : (f : Format) (k : ℕ) (x y u v : Float) → Times k x y → Times k u v → div f x u ≡ div f y v
-quotient-times f = same (div f) (over f) (div-is f) (over-scale f)
+quotient-times f = same-times (div f) (over f) (div-is f) (over-scale f)
+
+-- a quotient by a number that is not zero, from the values
+pub div-value : (f : Format) (x u : Float) (s t : Bool) (a c b d : ℕ) → 0 < c → 0 < d → 0 < b → HasValue x s a c → HasValue u t b d
+    → div f x u ≡ round f (unlike s t) (a * d) (b * c)
+div-value f x u s t a c b d C D B h k =
+    by-values (div f) (over f) (div-is f) (over-scale f) x u s t a c b d C D h k
+    ∙ rw (ne-eqb (b * c) 0 (λ (e : b * c ≡ 0). no-product b c B C e))

@@ -1,0 +1,2 @@
+pub mod CfoFrac
+pub mod Facts
