@@ -16,7 +16,7 @@ use Rattle.ieee.specs.Constants.{plusZero, plus-zero-is, half}
 use Rattle.ieee.specs.Levels.{Scaled}
 use Rattle.ieee.specs.Times.{Times, zero-times, le-times}
 use Rattle.ieee.specs.Gain.{times-of, scaled-product}
-use Rattle.complex.specs.Complex.{Pair, product, conjugate, squaredSize, norm64}
+use Rattle.complex.specs.Complex.{Pair, pair, product, conjugate, squaredSize, norm64}
 use Rattle.complex.specs.Changes.{turned, negated, turnIf, gainBy, most, WholePair, amplified, Change, ofSamples}
 use Rattle.complex.specs.Turns.{changed-product, changed-size}
 use Rattle.complex.specs.Gains.{BothScaled}
@@ -27,8 +27,9 @@ use Rattle.spectra.specs.Changes.{Changed, Wholes, Allowed}
 use Rattle.samples_needed.specs.Samples.{isMode, fftOf, guardOf, symbolOf}
 use Rattle.correlation.specs.Correlation.{pairsIn, lagsIn, lagProduct, lagEnergy}
 use Rattle.guess.specs.Guess.{correlationAt, energyAt, guessAt}
-use Rattle.guess.specs.Guess.{beats, offered, scan, triedGuard, triedMode, guessed}
+use Rattle.guess.specs.Guess.{beats, offered, scan, triedGuard, triedMode, guessed, guessGiven}
 use Rattle.guess.specs.Louder.{twiceGained, louderGuess, louder}
+use Rattle.guess.specs.Facts.{all-true, cond-keeps, search-keeps}
 use Rattle.guess.specs.Windows.{correlation-same, energy-same, correlation-louder, energy-louder, correlation-fits}
 use Rattle.guess.specs.declared.ModeGuess.{ModeGuess}
 use Rattle.guess.specs.declared.GuardSearch.{GuardSearch}
@@ -46,10 +47,6 @@ unfolding scan
 louder-scan k p f g [] best t h = refl
 louder-scan k p f g (x ∷ xs) best t h =
     ap (λ (b : GuardSearch). scan f b xs) (h best x (both-left (p x) (allIn p xs) t)) ∙ louder-scan k p f g xs (g best x) (both-right (p x) (allIn p xs) t) h
-
-all-true : (xs : List ℕ) → allIn (λ x. true) xs ≡ true
-all-true [] = refl
-all-true (x ∷ xs) = all-true xs
 
 -- what ys has at an offset is what xs has there, but for the gain
 record Kept (k : ℕ) (xs ys : List Float) (mode guard d : ℕ) : Type 0 where
@@ -194,9 +191,13 @@ module _ (negates turns : Bool) (g : ℕ) (K : suc g ≤ most) (xs ys : List Flo
     gained-energy =
         subst (λ (z : Float). Scaled energyLevel k (lagEnergy n xs i) z) (sym (lag-energy negates turns k xs ys h n i I)) (energy-gain k K _ _ _ _ a b)
 
+  gained-correlation : (mode guard d : ℕ) → isMode mode ≡ true
+      → BothScaled (guessLevel stepLevel) k (correlationAt xs mode guard d) (correlationAt ys mode guard d)
+  gained-correlation mode guard d m = correlation-louder xs ys (h .long) mode guard d k K N m (λ i I. gained-product (fftOf mode) i I)
+
   gained-kept : (mode guard d : ℕ) → isMode mode ≡ true → Kept k xs ys mode guard d
   gained-kept mode guard d m =
-      let c = correlation-louder xs ys (h .long) mode guard d k K N m (λ i I. gained-product (fftOf mode) i I) in
+      let c = gained-correlation mode guard d m in
       let e = energy-louder xs ys (h .long) mode guard d k K N m (λ i I. gained-energy (fftOf mode) i I) in
       let p = correlation-fits xs mode guard d in
       let q = correlation-fits ys mode guard d in
@@ -220,3 +221,56 @@ pub changed-guess : (negates : Bool) (c : Change) (xs ys : List Float) (modes gu
     → Allowed (ofSamples negates c) 1 xs → Changed (ofSamples negates c) 1 (λ b. b) xs ys
     → guessed ys modes guards ≡ louder (c .gain) (guessed xs modes guards)
 changed-guess negates c xs ys modes guards M N A h = by-gain negates (c .turns) (c .gain) xs ys modes guards M N A h
+
+-- ---- what is made of both parts, and does not depend on a power of two that both are multiplied by, is the same
+module _ {A : Type 0} (f : Pair → A) (same : (j : ℕ) (p q : Pair) → Times j (p .re) (q .re) → Times j (p .im) (q .im) → f q ≡ f p) where
+  abbrev ofParts : ModeGuess → A
+  ofParts g = f (pair (g .re) (g .im))
+
+  abbrev Held : ℕ → GuardSearch → Type 0
+  Held k (Found g) = ofParts (louderGuess k g) ≡ ofParts g
+  Held k Nothing = Unit
+  Held k (Refused code) = Unit
+
+  held-given : (k : ℕ) (lent : A) (b : GuardSearch) → Held k b → guessGiven ofParts (louder k b) lent ≡ guessGiven ofParts b lent
+  held-given k lent (Found g) h = h
+  held-given k lent Nothing h = refl
+  held-given k lent (Refused code) h = refl
+
+  -- what is found is the guess at an offset, whose parts in ys are those in xs times 2 ^ (2 × k)
+  held-search : (negates turns : Bool) (g : ℕ) → suc g ≤ most → (xs ys : List Float) (modes guards : List ℕ) → allIn isMode modes ≡ true
+      → pairsIn (length xs) ≤ 1048576 → Wholes 1 xs → ChangedSamples negates turns (suc g) xs ys → Held (suc g) (guessed xs modes guards)
+  unfolding guessAt
+  held-search negates turns g K xs ys modes guards M N w h = search-keeps (Held (suc g)) isMode xs step modes guards M tt
+    where
+      at : (mode guard d : ℕ) → isMode mode ≡ true → Held (suc g) (Found (guessAt xs mode guard d))
+      at mode guard d m =
+          let c = gained-correlation negates turns g K xs ys N w h mode guard d m in
+          let e = gained-kept negates turns g K xs ys N w h mode guard d m in
+          let re = times-of (suc g) (guessLevel stepLevel) _ _ (c .re) in
+          let im = times-of (suc g) (guessLevel stepLevel) _ _ (c .im) in
+          ap ofParts (sym (e .guess)) ∙ same (2 * suc g) (correlationAt xs mode guard d) (correlationAt ys mode guard d) re im
+
+      step : (mode guard : ℕ) → isMode mode ≡ true → (b : GuardSearch) (d : ℕ) → Held (suc g) b → Held (suc g) (offered xs mode guard b d)
+      step mode guard m b d H =
+          let at-d = guessAt xs mode guard d in
+          cond-keeps (Held (suc g)) (le (energyAt xs mode guard d) (plusZero binary64)) b _ H
+          (cond-keeps (Held (suc g)) (beats at-d b) (Found at-d) b (at mode guard d m) H)
+
+  held-as-it-is : (b : GuardSearch) → Held 0 b
+  held-as-it-is (Found g) = refl
+  held-as-it-is Nothing = tt
+  held-as-it-is (Refused code) = tt
+
+  held : (negates turns : Bool) (gain : ℕ) (xs ys : List Float) (modes guards : List ℕ) → allIn isMode modes ≡ true → pairsIn (length xs) ≤ 1048576
+      → Allowed (sampled negates turns gain) 1 xs → ChangedSamples negates turns gain xs ys → Held gain (guessed xs modes guards)
+  held negates turns gain xs ys modes guards M N A =
+      gain-cases (λ k. ChangedSamples negates turns k xs ys → Held k (guessed xs modes guards)) gain A
+      (λ h. held-as-it-is (guessed xs modes guards)) (λ g K w h. held-search negates turns g K xs ys modes guards M N w h)
+
+  pub changed-parts : (negates : Bool) (c : Change) (xs ys : List Float) (modes guards : List ℕ) → allIn isMode modes ≡ true
+      → pairsIn (length xs) ≤ 1048576 → Allowed (ofSamples negates c) 1 xs → Changed (ofSamples negates c) 1 (λ b. b) xs ys
+      → (lent : A) → guessGiven ofParts (guessed ys modes guards) lent ≡ guessGiven ofParts (guessed xs modes guards) lent
+  changed-parts negates c xs ys modes guards M N A h lent =
+      ap (λ (b : GuardSearch). guessGiven ofParts b lent) (changed-guess negates c xs ys modes guards M N A h)
+      ∙ held-given (c .gain) lent (guessed xs modes guards) (held negates (c .turns) (c .gain) xs ys modes guards M N A h)

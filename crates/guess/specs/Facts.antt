@@ -15,7 +15,7 @@ use lib.Ieee.{Float, binary64, lt, le}
 use Rattle.lists.specs.Refusals.{numbered}
 use Rattle.ieee.specs.Constants.{plusZero}
 use Rattle.lists.specs.Lists.{range}
-use Rattle.lists.specs.Tests.{memb}
+use Rattle.lists.specs.Tests.{memb, allIn, both-left, both-right}
 use Rattle.lists.specs.Select.{length-upTo, getD-upTo}
 use Rattle.samples_needed.specs.Samples.{fftOf, guardOf, symbolOf}
 use Rattle.correlation.specs.Correlation.{pairsIn, lagsIn}
@@ -42,15 +42,24 @@ pub record FoundIs (xs : List Float) (g : ModeGuess) : Type 0 where
   pub energy : le (energyAt xs (g .mode) (g .guard) (g .offset)) (plusZero binary64) ≡ false
 
 -- ---- what every step keeps holds of the whole search
-cond-keeps : (P : GuardSearch → Type 0) (b : Bool) (x y : GuardSearch) → P x → P y → P (cond b x y)
+pub cond-keeps : (P : GuardSearch → Type 0) (b : Bool) (x y : GuardSearch) → P x → P y → P (cond b x y)
 cond-keeps P true x y h g = h
 cond-keeps P false x y h g = g
 
-scan-keeps : (P : GuardSearch → Type 0) (f : GuardSearch → ℕ → GuardSearch) → ((b : GuardSearch) (x : ℕ) → P b → P (f b x))
-    → (b : GuardSearch) (xs : List ℕ) → P b → P (scan f b xs)
+-- p says which entries are met
+scan-keeps : (P : GuardSearch → Type 0) (p : ℕ → Bool) (f : GuardSearch → ℕ → GuardSearch) → ((b : GuardSearch) (x : ℕ) → p x ≡ true → P b → P (f b x))
+    → (b : GuardSearch) (xs : List ℕ) → allIn p xs ≡ true → P b → P (scan f b xs)
 unfolding scan
-scan-keeps P f k b [] h = h
-scan-keeps P f k b (x ∷ xs) h = scan-keeps P f k (f b x) xs (k b x h)
+scan-keeps P p f k b [] t h = h
+scan-keeps P p f k b (x ∷ xs) t h =
+    scan-keeps P p f k (f b x) xs (both-right (p x) (allIn p xs) t) (k b x (both-left (p x) (allIn p xs) t) h)
+
+abbrev any : ℕ → Bool
+any x = true
+
+pub all-true : (xs : List ℕ) → allIn (λ x. true) xs ≡ true
+all-true [] = refl
+all-true (x ∷ xs) = all-true xs
 
 -- the last entry comes last
 pub scan-last : (f : GuardSearch → ℕ → GuardSearch) (b : GuardSearch) (xs : List ℕ) (x : ℕ) → scan f b (xs ++ (x ∷ [])) ≡ f (scan f b xs) x
@@ -58,24 +67,25 @@ unfolding scan
 scan-last f b [] x = refl
 scan-last f b (y ∷ xs) x = scan-last f (f b y) xs x
 
--- P is kept by a guard, a mode and the whole search where an offset keeps it
-module _ (P : GuardSearch → Type 0) (xs : List Float) (k : (mode guard : ℕ) (b : GuardSearch) (d : ℕ) → P b → P (offered xs mode guard b d)) where
-  guard-keeps : (mode : ℕ) (b : GuardSearch) (guard : ℕ) → P b → P (triedGuard xs mode b guard)
+-- P is kept by a guard, a mode and the whole search where an offset keeps it; p says which modes are met
+module _ (P : GuardSearch → Type 0) (p : ℕ → Bool) (xs : List Float)
+    (k : (mode guard : ℕ) → p mode ≡ true → (b : GuardSearch) (d : ℕ) → P b → P (offered xs mode guard b d)) where
+  guard-keeps : (mode : ℕ) → p mode ≡ true → (b : GuardSearch) (guard : ℕ) → P b → P (triedGuard xs mode b guard)
   unfolding triedGuard
-  guard-keeps mode b guard h =
+  guard-keeps mode m b guard h =
       let offsets = range (symbolOf mode guard) in
       cond-keeps P (leb (guardOf mode guard + 4 * symbolOf mode guard) (lagsIn (fftOf mode) xs)) (scan (offered xs mode guard) b offsets) b
-      (scan-keeps P (offered xs mode guard) (k mode guard) b offsets h) h
+      (scan-keeps P any (offered xs mode guard) (λ b d t. k mode guard m b d) b offsets (all-true offsets) h) h
 
-  mode-keeps : (guards : List ℕ) (b : GuardSearch) (mode : ℕ) → P b → P (triedMode xs guards b mode)
+  mode-keeps : (guards : List ℕ) (b : GuardSearch) (mode : ℕ) → p mode ≡ true → P b → P (triedMode xs guards b mode)
   unfolding triedMode
-  mode-keeps guards b mode h =
+  mode-keeps guards b mode m h =
       cond-keeps P (ltb (fftOf mode) (pairsIn (length xs))) (scan (triedGuard xs mode) b guards) b
-      (scan-keeps P (triedGuard xs mode) (guard-keeps mode) b guards h) h
+      (scan-keeps P any (triedGuard xs mode) (λ b guard t. guard-keeps mode m b guard) b guards (all-true guards) h) h
 
-  search-keeps : (modes guards : List ℕ) → P Nothing → P (guessed xs modes guards)
+  pub search-keeps : (modes guards : List ℕ) → allIn p modes ≡ true → P Nothing → P (guessed xs modes guards)
   unfolding guessed
-  search-keeps modes guards h = scan-keeps P (triedMode xs guards) (mode-keeps guards) Nothing modes h
+  search-keeps modes guards M h = scan-keeps P p (triedMode xs guards) (mode-keeps guards) Nothing modes M h
 
 -- ---- what is found is the guess at its own offset, which has energy
 abbrev Good : List Float → GuardSearch → Type 0
@@ -98,7 +108,7 @@ good-offered xs mode guard b d h = by (le (energyAt xs mode guard d) (plusZero b
     by false e = cond-keeps (Good xs) (beats g b) (Found g) b (good-guess xs mode guard d e) h
 
 pub found-is : (xs : List Float) (modes guards : List ℕ) (g : ModeGuess) → guessed xs modes guards ≡ Found g → FoundIs xs g
-found-is xs modes guards g e = subst (Good xs) e (search-keeps (Good xs) xs (good-offered xs) modes guards tt)
+found-is xs modes guards g e = subst (Good xs) e (search-keeps (Good xs) any xs (λ mode guard m. good-offered xs mode guard) modes guards (all-true modes) tt)
 
 -- ---- an answer's number is the number that refuses the call, and 0 where nothing does
 -- a search never ends refused
@@ -115,7 +125,7 @@ pub search-number : (xs : List Float) (modes guards : List ℕ) (scratch : ℕ)
 unfolding guessAnswer
 search-number xs modes guards scratch =
     numbered searchNumber Refused (guessCode modes guards (length xs) scratch) (guessed xs modes guards)
-    (search-keeps Unrefused xs (unrefused-offered xs) modes guards refl) (λ k. refl)
+    (search-keeps Unrefused any xs (λ mode guard m. unrefused-offered xs mode guard) modes guards (all-true modes) refl) (λ k. refl)
 
 -- an offset that the search tries
 pub record Offered (xs : List Float) (modes guards : List ℕ) (mode guard d : ℕ) : Type 0 where
@@ -138,9 +148,9 @@ some-offered xs mode guard b d h =
 
 module _ (f : GuardSearch → ℕ → GuardSearch) (k : (b : GuardSearch) (x : ℕ) → Some b → Some (f b x)) where
   started : (b : GuardSearch) (xs : List ℕ) → scan f b xs ≡ Nothing → b ≡ Nothing
-  started (Found g) xs e = absurd (subst Some e (scan-keeps Some f k (Found g) xs tt))
+  started (Found g) xs e = absurd (subst Some e (scan-keeps Some any f (λ b x t. k b x) (Found g) xs (all-true xs) tt))
   started Nothing xs e = refl
-  started (Refused code) xs e = absurd (subst Some e (scan-keeps Some f k (Refused code) xs tt))
+  started (Refused code) xs e = absurd (subst Some e (scan-keeps Some any f (λ b x t. k b x) (Refused code) xs (all-true xs) tt))
 
   no-step : (xs : List ℕ) (x : ℕ) → scan f Nothing xs ≡ Nothing → memb x xs ≡ true → f Nothing x ≡ Nothing
   unfolding scan
@@ -180,14 +190,20 @@ module _ (xs : List Float) (mode guard d : ℕ) where
   no-offset e l h = no-step (offered xs mode guard) (some-offered xs mode guard) (range (symbolOf mode guard)) d (rw (le-leb _ _ l) at e) (memb-range _ d h)
 
 module _ (xs : List Float) (guards : List ℕ) (mode : ℕ) where
+  some-guard : (mode : ℕ) (b : GuardSearch) (guard : ℕ) → Some b → Some (triedGuard xs mode b guard)
+  some-guard mode = guard-keeps Some any xs (λ mode guard m. some-offered xs mode guard) mode refl
+
+  some-mode : (guards : List ℕ) (b : GuardSearch) (mode : ℕ) → Some b → Some (triedMode xs guards b mode)
+  some-mode guards b mode = mode-keeps Some any xs (λ mode guard m. some-offered xs mode guard) guards b mode refl
+
   no-guard : (guard : ℕ) → triedMode xs guards Nothing mode ≡ Nothing → fftOf mode < pairsIn (length xs) → memb guard guards ≡ true
       → triedGuard xs mode Nothing guard ≡ Nothing
   unfolding triedMode
-  no-guard guard e l m = no-step (triedGuard xs mode) (guard-keeps Some xs (some-offered xs) mode) guards guard (rw (lt-ltb _ _ l) at e) m
+  no-guard guard e l m = no-step (triedGuard xs mode) (some-guard mode) guards guard (rw (lt-ltb _ _ l) at e) m
 
   no-mode : (modes : List ℕ) → guessed xs modes guards ≡ Nothing → memb mode modes ≡ true → triedMode xs guards Nothing mode ≡ Nothing
   unfolding guessed
-  no-mode modes e m = no-step (triedMode xs guards) (mode-keeps Some xs (some-offered xs) guards) modes mode e m
+  no-mode modes e m = no-step (triedMode xs guards) (some-mode guards) modes mode e m
 
 pub nothing-found : (xs : List Float) (modes guards : List ℕ) (mode guard d : ℕ) → guessed xs modes guards ≡ Nothing → Offered xs modes guards mode guard d
     → le (energyAt xs mode guard d) (plusZero binary64) ≡ true
