@@ -34,15 +34,17 @@ use Rattle.samples_needed.specs.Samples.{isMode, isGuard}
 use Rattle.correlation.specs.Correlation.{pairsIn}
 use Rattle.guess.specs.Guess.{guessed, guessCode, guessAnswer}
 use Rattle.guess.specs.Louder.{louder}
-use Rattle.guess.specs.Changed.{changed-guess}
+use Rattle.guess.specs.Changed.{changed-guess, changed-parts}
 use Rattle.guess.specs.Facts.{search-number}
 use Rattle.guess.specs.declared.GuardSearch.{GuardSearch}
 use Rattle.guess.specs.declared.GuardSearch.the-variants as search
+use Rattle.cfo_frac.specs.CfoFrac.{cfoFrac}
+use Rattle.cfo_frac.specs.Facts.{times-cfo}
 use Rattle.pilot_phase.specs.PilotPhase.{phaseCode}
 use Rattle.pilot_phase.specs.Facts.{phase-number}
 use Rattle.pilot_phase.specs.Changed.{changed-phase, changed-counts, changed-lead}
 use Rattle.segment_kinds.specs.SegmentKinds.{kindsCode, kindsLeaves, kindsAnswer, scoresAnswer, detectedKinds, kindScores}
-use Rattle.acquire.specs.Demand3.{RefusedAlike, Proviso, ShiftKept, KindsKept, PhaseKept, GuessKept, Demand3}
+use Rattle.acquire.specs.Demand3.{RefusedAlike, Proviso, ShiftKept, KindsKept, PhaseKept, cfoGiven, GuessKept, Demand3}
 
 -- what an accepted call gives, and nothing else, may rest on its being accepted
 accepted : {A : Type 0} (code : ℕ) (x y z : A) → (code ≡ 0 → x ≡ y) → cond (eqb code 0) x z ≡ cond (eqb code 0) y z
@@ -193,27 +195,36 @@ modes-few modes guards floats room e =
     let d = passed (even && few) 5 _ (lit< tt) (b .rest) in
     (a .first, leb-true _ _ (both-right even few (d .first)))
 
-module _ (negates : Bool) (c : Change) (modes guards : List ℕ) (room : ℕ) (xs ys : List Float) where
+module _ (negates : Bool) (c : Change) (modes guards : List ℕ) (room : ℕ) (xs ys : List Float) (A : Allowed (ofSamples negates c) 1 xs)
+    (h : Changed (ofSamples negates c) 1 (λ b. b) xs ys) where
   abbrev searchCode : List Float → ℕ
   searchCode zs = guessCode modes guards (length zs) room
 
-  abbrev after : GuardSearch → GuardSearch
-  after = louder (c .gain)
+  search-code : searchCode ys ≡ searchCode xs
+  search-code = ap (λ (k : ℕ). guessCode modes guards k room) (h .long)
 
-  outside : (b : Bool) → cond b (after (guessed xs modes guards)) (search.Refused (searchCode xs))
-      ≡ after (cond b (guessed xs modes guards) (search.Refused (searchCode xs)))
-  outside true = refl
-  outside false = refl
-
-  guess-kept : Allowed (ofSamples negates c) 1 xs → Changed (ofSamples negates c) 1 (λ b. b) xs ys → GuessKept (c .gain) modes guards room xs ys
+  -- what is made of an answer, where it is the same of what an accepted call found
+  by-search : {B : Type 0} (f g : GuardSearch → B) → ((k : ℕ) → f (search.Refused k) ≡ g (search.Refused k))
+      → (searchCode xs ≡ 0 → f (guessed ys modes guards) ≡ g (guessed xs modes guards)) → f (guessAnswer ys modes guards room) ≡ g (guessAnswer xs modes guards room)
   unfolding guessAnswer
-  guess-kept A h =
-      let code : searchCode ys ≡ searchCode xs = ap (λ (k : ℕ). guessCode modes guards k room) (h .long) in
-      let inner : searchCode xs ≡ 0 → guessed ys modes guards ≡ after (guessed xs modes guards) =
-      λ e. let p = modes-few modes guards (length xs) room e in changed-guess negates c xs ys modes guards (p .0) (p .1) A h in
-      ap (λ (k : ℕ). cond (eqb k 0) (guessed ys modes guards) (search.Refused k)) code
-      ∙ accepted (searchCode xs) (guessed ys modes guards) (after (guessed xs modes guards)) (search.Refused (searchCode xs)) inner
-      ∙ outside (eqb (searchCode xs) 0)
+  by-search f g refused found =
+      ap (λ (k : ℕ). f (cond (eqb k 0) (guessed ys modes guards) (search.Refused k))) search-code
+      ∙ go (eqb (searchCode xs) 0) (eqb→eq (searchCode xs) 0)
+    where
+      go : (b : Bool) → (T b → searchCode xs ≡ 0) → f (cond b (guessed ys modes guards) (search.Refused (searchCode xs)))
+          ≡ g (cond b (guessed xs modes guards) (search.Refused (searchCode xs)))
+      go true e = found (e tt)
+      go false e = refused (searchCode xs)
+
+  guess-kept : GuessKept (c .gain) modes guards room xs ys
+  guess-kept =
+      record {
+        answer = by-search (λ r. r) (louder (c .gain)) (λ k. refl)
+            (λ e. let p = modes-few modes guards (length xs) room e in changed-guess negates c xs ys modes guards (p .0) (p .1) A h);
+        cfo = λ lent. by-search (λ r. cfoGiven r lent) (λ r. cfoGiven r lent) (λ k. refl)
+            (λ e. let p = modes-few modes guards (length xs) room e in
+            changed-parts cfoFrac times-cfo negates c xs ys modes guards (p .0) (p .1) A h lent);
+      }
 
 -- ---- refusals: each is a function of lengths and codes
 refused-alike : (xs ys : List Float) → length ys ≡ length xs → RefusedAlike xs ys

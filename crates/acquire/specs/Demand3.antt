@@ -10,6 +10,7 @@
 --   movedBin, MovedRound   bin b moved by s is bin (b + s) mod n, and a list of ratios so moved (shift/specs/Shift, shift/specs/Moves)
 --   InRange, BeatsAll      from -bound to bound; to have the greater score, which no NaN does or suffers (shift/specs/Moves)
 --   louder                 both parts of the correlation times the gain twice, and all else as it was (guess/specs/Louder)
+--   cfoFrac                the fractional carrier offset that both parts tell (cfo_frac/specs/CfoFrac)
 -- Answers, and what is left in lent lists, are the definitions that the operations' contracts cite.
 -- Definitions only.
 use Prim.Native.Nat.{ℕ, _+_}
@@ -23,14 +24,17 @@ use Rattle.params.specs.declared.Mode.{Mode}
 use Rattle.params.specs.declared.ModeNumber.{ModeNumber}
 use Rattle.params.specs.declared.ModeNumber.the-variants.{Known}
 use Rattle.params.specs.Params.{fftSize, totalCarriers}
+use Rattle.complex.specs.Complex.{pair}
 use Rattle.complex.specs.Changes.{Change, ofSamples}
 use Rattle.spectra.specs.Changes.{Changed, Allowed}
 use Rattle.shift.specs.declared.FoundShift.{FoundShift}
 use Rattle.shift.specs.declared.ShiftAnswer.the-variants.{Found}
 use Rattle.shift.specs.Shift.{movedBin, pattern, shiftNumber, shiftLeaves, shiftAnswer}
 use Rattle.shift.specs.Moves.{InRange, BeatsAll, MovedRound}
-use Rattle.guess.specs.Guess.{searchNumber, guessAnswer}
+use Rattle.guess.specs.declared.GuardSearch.{GuardSearch}
+use Rattle.guess.specs.Guess.{searchNumber, guessAnswer, guessGiven}
 use Rattle.guess.specs.Louder.{louder}
+use Rattle.cfo_frac.specs.CfoFrac.{cfoFrac}
 use Rattle.pilot_phase.specs.PilotPhase.{phaseNumber, phaseAnswer, countsAnswer, leadAnswer}
 use Rattle.segment_kinds.specs.SegmentKinds.{kindsCode, kindsLeaves, kindsAnswer, scoresAnswer}
 
@@ -71,10 +75,16 @@ pub record PhaseKept (mode : Mode) (kinds : List ℕ) (xs ys : List Float) : Typ
   pub counts : countsAnswer (Known mode) kinds ys ≡ countsAnswer (Known mode) kinds xs
   pub lead : leadAnswer (Known mode) kinds ys ≡ leadAnswer (Known mode) kinds xs
 
--- ---- the guess: samples, negated, turned and amplified. Found or not, mode, guard, offset and metric are the same, and both parts of the
--- correlation are multiplied by the gain twice
-abbrev pub GuessKept : ℕ → List ℕ → List ℕ → ℕ → List Float → List Float → Type 0
-GuessKept gain modes guards room xs ys = guessAnswer ys modes guards room ≡ louder gain (guessAnswer xs modes guards room)
+-- ---- the guess: samples, negated, turned and amplified
+-- the fractional carrier offset of what a search found, or what was lent where nothing was
+abbrev pub cfoGiven : GuardSearch → Float → Float
+cfoGiven answer lent = guessGiven (λ g. cfoFrac (pair (g .re) (g .im))) answer lent
+
+pub record GuessKept (gain : ℕ) (modes guards : List ℕ) (room : ℕ) (xs ys : List Float) : Type 0 where
+  -- found or not, mode, guard, offset and metric are the same, and both parts of the correlation are multiplied by the gain twice
+  pub answer : guessAnswer ys modes guards room ≡ louder gain (guessAnswer xs modes guards room)
+  -- the fractional offset that both parts tell is the same
+  pub cfo : (lent : Float) → cfoGiven (guessAnswer ys modes guards room) lent ≡ cfoGiven (guessAnswer xs modes guards room) lent
 
 -- ---- DEMAND 3, for every change c and move s. Samples are spectra of one pair
 pub record Demand3 (c : Change) (s : ℤ) : Type 0 where
