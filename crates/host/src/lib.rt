@@ -7,6 +7,8 @@ ghost use Rattle.params.specs.Params.{modeFrom};
 ghost use Rattle.root.specs.Root.{rootOf};
 ghost use Rattle.ieee.specs.Narrow.{narrowOf};
 ghost use Rattle.complex.specs.Complex.{pair, norm32, norm64};
+ghost use Rattle.angle.specs.Angle.{angleOf};
+ghost use Rattle.cfo_frac.specs.CfoFrac.{cfoFrac};
 ghost use Rattle.prbs.specs.SignMap.{SignMap};
 ghost use Rattle.frame.specs.Operations.{RoleMap};
 ghost use Rattle.carrier_lists.specs.Operations.{DataList};
@@ -363,4 +365,21 @@ pub extern "C" fn sillurwy_norm64(re: f64, im: f64) -> f64
     ensures { λ r. ⌜ r ≡ norm64 (pair re im) ⌝ }
 {
     C64::new(re, im).norm()
+}
+
+// The angle of the pair (re, im), in 1/65536 of a turn.
+#[no_mangle]
+pub extern "C" fn sillurwy_angle(re: f64, im: f64) -> i32
+    ensures { λ r. ⌜ r ≡ angleOf (pair re im) ⌝ }
+{
+    angle::angle(C64::new(re, im))
+}
+
+// The fractional carrier offset that the summed correlation (re, im) of a guess tells, in carrier
+// spacings.
+#[no_mangle]
+pub extern "C" fn sillurwy_cfo_frac(re: f64, im: f64) -> f64
+    ensures { λ r. ⌜ r ≡ cfoFrac (pair re im) ⌝ }
+{
+    cfo_frac::cfo_frac(C64::new(re, im))
 }

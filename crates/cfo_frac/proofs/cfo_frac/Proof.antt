@@ -1,38 +1,25 @@
 -- `cfo_frac::cfo_frac` meets its contract: the angle is small, so that nothing is lost where it is negated.
 -- Assumes nothing.
 use mathlib.Core.Path.{_≡_, refl, sym, ap, _∙_, subst}
-use Prim.Native.Nat.{ℕ, zero, suc, _<_}
-use native.Mathlib.Omega.{arith}
 use borrow.Author.Needs.{needs}
-use lib.IntN.{ℤ, pos, negsuc, negℤ, _-ℤ_, +ℤ-idl}
+use lib.IntN.{ℤ, pos, negℤ, _-ℤ_, +ℤ-idl}
 use lib.Ieee.{binary64, ofBits, ofInt, div}
 use mir.Syntax.{w32}
 use mir.Val.{SFits, toZ, ofZ}
 use mir.ValLaws.{toZ-ofZ}
 use Rattle.complex.specs.Complex.{Pair, of64}
-use Rattle.angle.specs.Angle.{angleOf, AngleRange}
-use Rattle.angle.specs.Facts.{angle-range}
+use Rattle.angle.specs.Angle.{angleOf}
+use Rattle.angle.specs.Facts.{angle-range, word, word-back}
 use Rattle.cfo_frac.specs.CfoFrac.{cfoFrac}
 use Rattle.cfo_frac.proofs.cfo_frac.Statement.{statement}
 use Rattle.cfo_frac.proofs.cfo_frac.Tie as tie
 
-small : (z : ℤ) → AngleRange z → SFits w32 z
-small (pos n) h = record { sfits = omega arith }
-small (negsuc n) h = record { sfits = omega arith }
-
-small-negated : (z : ℤ) → AngleRange z → SFits w32 (negℤ z)
-small-negated (pos zero) h = record { sfits = omega arith }
-small-negated (pos (suc n)) h = record { sfits = omega arith }
-small-negated (negsuc n) h = record { sfits = omega arith }
-
 module _ (p : Pair) (r : ℤ) (e : r ≡ angleOf p) where
   negated : pos 0 -ℤ toZ w32 (ofZ w32 r) ≡ negℤ (angleOf p)
-  negated =
-      ap (λ (z : ℤ). pos 0 -ℤ z) (ap (λ (z : ℤ). toZ w32 (ofZ w32 z)) e ∙ toZ-ofZ w32 (angleOf p) (small (angleOf p) (angle-range p)))
-      ∙ +ℤ-idl (negℤ (angleOf p))
+  negated = ap (λ (z : ℤ). pos 0 -ℤ z) (word-back p r e) ∙ +ℤ-idl (negℤ (angleOf p))
 
   negated-fits : SFits w32 (pos 0 -ℤ toZ w32 (ofZ w32 r))
-  negated-fits = subst (SFits w32) (sym negated) (small-negated (angleOf p) (angle-range p))
+  negated-fits = subst (SFits w32) (sym negated) (word (angleOf p) (angle-range p) .1)
 
   negated-is : toZ w32 (ofZ w32 (pos 0 -ℤ toZ w32 (ofZ w32 r))) ≡ negℤ (angleOf p)
   negated-is = toZ-ofZ w32 (pos 0 -ℤ toZ w32 (ofZ w32 r)) negated-fits ∙ negated
