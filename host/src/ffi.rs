@@ -128,6 +128,8 @@ mod c {
         pub fn sillurwy_narrow(x: f64) -> f32;
         pub fn sillurwy_norm32(re: f32, im: f32) -> f32;
         pub fn sillurwy_norm64(re: f64, im: f64) -> f64;
+        pub fn sillurwy_angle(re: f64, im: f64) -> i32;
+        pub fn sillurwy_cfo_frac(re: f64, im: f64) -> f64;
     }
 }
 
@@ -434,4 +436,19 @@ pub fn norm32(re: f32, im: f32) -> f32 {
 pub fn norm64(re: f64, im: f64) -> f64 {
     // SAFETY: it takes and gives numbers alone.
     unsafe { c::sillurwy_norm64(re, im) }
+}
+
+/// The angle of the pair (re, im), in 1/65536 of a turn.
+#[inline]
+pub fn angle(re: f64, im: f64) -> i32 {
+    // SAFETY: it takes and gives numbers alone.
+    unsafe { c::sillurwy_angle(re, im) }
+}
+
+/// The fractional carrier offset that the summed correlation (re, im) of a guess tells, in carrier
+/// spacings.
+#[inline]
+pub fn cfo_frac(re: f64, im: f64) -> f64 {
+    // SAFETY: it takes and gives numbers alone.
+    unsafe { c::sillurwy_cfo_frac(re, im) }
 }

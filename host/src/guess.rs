@@ -1,5 +1,6 @@
 //! Mode, guard interval and timing of a capture.
 
+use crate::cfo_frac::cfo_frac;
 use crate::ffi;
 use crate::params::{guard_codes, mode_codes, GuardInterval, Mode};
 use crate::refusal::{accepted, Refusal};
@@ -20,10 +21,56 @@ pub struct ModeGuess {
     pub offset: usize,
     /// Normalised correlation.
     pub metric: f64,
-    /// Real part of the summed correlation.
+    /// Real part of the summed correlation, from which [`cfo_frac`](ModeGuess::cfo_frac) is told.
     pub re: f64,
     /// Imaginary part of the summed correlation.
     pub im: f64,
+}
+
+impl ModeGuess {
+    /// The fractional offset that the summed correlation tells, in carrier spacings: from -0.5 up to,
+    /// not including, 0.5.
+    ///
+    /// The correlation sums products of sample x\[i\] and the conjugate of x\[i + n\]. A positive
+    /// offset is one in which carriers sit above their bins: all frequencies are too high by that much
+    /// of a carrier spacing. To take it off, sample i is multiplied by exp(-2πj · cfo_frac · i / n).
+    ///
+    /// This is the fraction alone. Whole carrier spacings are the shift that
+    /// [`integer_cfo`](crate::shift::integer_cfo) gives for spectra of samples from which the fraction
+    /// was taken off, and the two add up.
+    ///
+    /// ```
+    /// use sillurwy::guess::detect_mode;
+    /// use sillurwy::params::{GuardInterval, Mode};
+    /// use std::f64::consts::TAU;
+    ///
+    /// // Samples, each multiplied by exp(2πj · spacings · i / n).
+    /// fn moved_up(samples: &[f32], spacings: f64) -> Vec<f32> {
+    ///     let step = TAU * spacings / Mode::M1.fft_size() as f64;
+    ///     let moved = |(i, pair): (usize, &[f32])| {
+    ///         let (sin, cos) = (step * i as f64).sin_cos();
+    ///         let (re, im) = (f64::from(pair[0]), f64::from(pair[1]));
+    ///         [(re * cos - im * sin) as f32, (re * sin + im * cos) as f32]
+    ///     };
+    ///     samples.chunks(2).enumerate().flat_map(moved).collect()
+    /// }
+    ///
+    /// // The carrier of bin 0 alone, a fifth of a carrier spacing too high.
+    /// let samples = moved_up(&[1.0, 0.0].repeat(10_560), 0.2);
+    /// let search = |samples: &[f32]| detect_mode(samples, &[Mode::M1], &[GuardInterval::G1_32]);
+    /// let guess = search(&samples)?.expect("there are enough samples");
+    /// let unit = 1.0 / 65536.0;
+    /// assert!((guess.cfo_frac() - 0.2).abs() <= unit);
+    ///
+    /// // Taken off, nothing is left of it.
+    /// let corrected = moved_up(&samples, -guess.cfo_frac());
+    /// let guess = search(&corrected)?.expect("there are enough samples");
+    /// assert!(guess.cfo_frac().abs() <= unit);
+    /// # Ok::<(), sillurwy::Refusal>(())
+    /// ```
+    pub fn cfo_frac(&self) -> f64 {
+        cfo_frac(self.re, self.im)
+    }
 }
 
 /// The samples, in pairs, that the guard search needs to try each mode and guard with at least

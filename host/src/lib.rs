@@ -21,6 +21,8 @@
 //! | [`chanest`] | [`estimate_grid`](chanest::estimate_grid) |
 //! | [`ieee`] | [`root`](ieee::root), [`narrow`](ieee::narrow) |
 //! | [`complex`] | [`norm32`](complex::norm32), [`norm64`](complex::norm64) |
+//! | [`angle`] | [`angle`](angle::angle) |
+//! | [`cfo_frac`] | [`cfo_frac`](cfo_frac::cfo_frac) |
 //!
 //! An operation answers, or gives a [`Refusal`] and leaves everything lent as it was. Where an
 //! operation needs a buffer, a function of its name makes one of the right size, and a second one,
@@ -44,8 +46,10 @@
 // What is unsafe is written by dev/declare, in `ffi` alone.
 #![deny(unsafe_code)]
 
+pub mod angle;
 pub mod carrier_lists;
 pub mod carrier_role;
+pub mod cfo_frac;
 pub mod chanest;
 pub mod complex;
 #[allow(unsafe_code)]

@@ -164,6 +164,11 @@ fn a_declaration_that_differs_is_seen_and_written_again() {
             "float sillurwy_norm32",
             "double sillurwy_norm32",
         ),
+        header(
+            "signed",
+            "\nint32_t sillurwy_angle",
+            "\nuint32_t sillurwy_angle",
+        ),
         header("size", "kinds[SILLURWY_SEGMENTS]", "kinds[SILLURWY_PHASES]"),
         header("place", "sillurwy_narrow(double x)", "sillurwy_narrow()"),
         ffi("name", "pub fn root(x: f64)", "pub fn root(y: f64)"),

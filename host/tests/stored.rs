@@ -4,15 +4,15 @@ use sillurwy::frame::CarrierRole;
 use sillurwy::params::{kinds_from_codes, GuardInterval, Mode, Phase, SegmentKind};
 use sillurwy::pilot_phase::PilotPhase;
 use sillurwy::{
-    carrier_lists, carrier_role, chanest, complex, frame, frame_start, guess, ieee, ofdm,
-    pilot_phase, prbs, ratio, segment_kinds, shift, tmcc, Refusal,
+    angle, carrier_lists, carrier_role, cfo_frac, chanest, complex, frame, frame_start, guess,
+    ieee, ofdm, pilot_phase, prbs, ratio, segment_kinds, shift, tmcc, Refusal,
 };
 use std::array::from_fn;
 use std::fs;
 use std::path::Path;
 
 /// The operations, by their numbers, which count from 1; how many things each is lent to be written.
-const OPERATIONS: [(&str, usize); 19] = [
+const OPERATIONS: [(&str, usize); 21] = [
     ("carrier_bin", 1),
     ("role_map", 1),
     ("sign_map", 1),
@@ -32,6 +32,8 @@ const OPERATIONS: [(&str, usize); 19] = [
     ("frame_start", 3),
     ("bin_ratio", 1),
     ("carrier_role", 1),
+    ("angle", 1),
+    ("cfo_frac", 1),
 ];
 
 /// What is not read yet of the stored answers.
@@ -317,6 +319,11 @@ fn call(name: &str, record: &Record) -> Result<Answer, Refusal> {
             let role = carrier_role::carrier_role(mode, phase, &kinds, k);
             answer(role, [one(role.ok().map(CarrierRole::byte))])
         }
+        "angle" => {
+            let angle = angle::angle(wide(0), wide(1));
+            (0, vec![one(Some(i64::from(angle.0)))])
+        }
+        "cfo_frac" => (0, vec![one(Some(cfo_frac::cfo_frac(wide(0), wide(1))))]),
         name => panic!("{name} has no case"),
     })
 }

@@ -81,12 +81,16 @@ static size_t below(struct bytes *in, size_t bound)
     return (size_t)(a_number(in, 4) % bound);
 }
 
-static double a_double(struct bytes *in)
+static double double_of(uint64_t bits)
 {
-    uint64_t bits = a_number(in, 8);
     double value;
     memcpy(&value, &bits, sizeof value);
     return value;
+}
+
+static double a_double(struct bytes *in)
+{
+    return double_of(a_number(in, 8));
 }
 
 static float a_float(struct bytes *in)
@@ -925,6 +929,101 @@ static void norm64(struct bytes *in)
     must_be_f64(sillurwy_norm64(re, im), sqrt(re * re + im * im));
 }
 
+/* ---- Angles: they are held to their laws, and to the C library's atan2. ---- */
+
+struct pair {
+    double re, im;
+};
+
+/* One part of a pair: zeros, ones, the least and the greatest, infinities and NaNs. */
+static double a_special(struct bytes *in)
+{
+    static const uint64_t special[] = {
+        0x0000000000000000, 0x8000000000000000, 0x3ff0000000000000, 0xbff0000000000000,
+        0x0000000000000001, 0x8000000000000001, 0x000fffffffffffff, 0x0010000000000000,
+        0x7fefffffffffffff, 0xffefffffffffffff, 0x7fe0000000000000, 0x3fefffffffffffff,
+        0x7ff0000000000000, 0xfff0000000000000, 0x7ff8000000000000, 0xfff0000000000001};
+    return double_of(special[a_byte(in) % 16]);
+}
+
+/* A pair of one of several sorts: any bits, which mostly lie next to an axis; parts whose sizes are
+ * up to 2^32 apart; whole numbers; special ones, or one of them beside any bits. */
+static struct pair a_pair(struct bytes *in)
+{
+    uint8_t sort = a_byte(in) % 8;
+    struct pair p = {0, 0};
+    p.re = sort == 0 ? a_special(in) : a_double(in);
+    p.im = sort <= 1 ? a_special(in) : a_double(in);
+    if (sort >= 3 && sort <= 5) {
+        int of_re = 0, of_im = 0;
+        frexp(p.re, &of_re);
+        p.im = ldexp(frexp(p.im, &of_im), of_re + a_byte(in) % 65 - 32);
+    } else if (sort >= 6) {
+        /* A byte, or 48 bits as in the sums of a capture; of a byte some pairs are diagonals. */
+        unsigned bits = sort == 6 ? 56 : 16;
+        p.re = (double)((int64_t)a_number(in, 8) >> bits);
+        p.im = (double)((int64_t)a_number(in, 8) >> bits);
+    }
+    return p;
+}
+
+/* An angle as the library gives it; a mistake puts it out by one. */
+static int32_t angle_of(double re, double im)
+{
+    return sillurwy_angle(re, im) + (mistake == WRONG_CODE);
+}
+
+static void must_hold(bool holds, const char *law, int32_t given)
+{
+    if (!holds) {
+        problem("the angle is not the one that is owed:", law, given);
+    }
+}
+
+/* How far an angle is from the true one round the circle, in 1/65536 of a turn. */
+static double from_true(int32_t given, struct pair p)
+{
+    const double half_turn = 3.14159265358979323846;
+    double apart = fabs(given - atan2(p.im, p.re) / half_turn * 32768);
+    return apart > 32768 ? 65536 - apart : apart;
+}
+
+/* True if the angle is the same after both parts were multiplied by a power of two, where they can
+ * be without being rounded. */
+static bool keeps_under_gain(int32_t given, struct pair p, int power)
+{
+    double re = ldexp(p.re, power), im = ldexp(p.im, power);
+    bool exact = ldexp(re, -power) == p.re && ldexp(im, -power) == p.im;
+    return !exact || angle_of(re, im) == given;
+}
+
+static void angle(struct bytes *in)
+{
+    struct pair p = a_pair(in);
+    int power = (int)below(in, 129) - 64;
+    int32_t given = angle_of(p.re, p.im);
+    if (!isfinite(p.re) || !isfinite(p.im) || (p.re == 0 && p.im == 0)) {
+        must_hold(given == 0, "a pair that has no angle", given);
+        return;
+    }
+    must_hold(given > -32768 && given <= 32768, "range", given);
+    must_hold(from_true(given, p) <= 1, "one unit from atan2", given);
+    int32_t turned = given + 16384;
+    turned -= turned > 32768 ? 65536 : 0;
+    must_hold(angle_of(-p.im, p.re) == turned, "quarter turn", given);
+    must_hold(angle_of(p.re, -p.im) == (given == 32768 ? given : -given), "mirrored", given);
+    must_hold(keeps_under_gain(given, p, power), "gain", given);
+    /* A sum with +0.0 leaves every number but -0.0. */
+    must_hold(angle_of(p.re + 0.0, p.im + 0.0) == given, "signs of zeros", given);
+}
+
+static void cfo_frac(struct bytes *in)
+{
+    struct pair p = a_pair(in);
+    int32_t turn = sillurwy_angle(p.re, p.im);
+    must_be_f64(sillurwy_cfo_frac(p.re, p.im), turn == 0 ? 0.0 : -(double)turn / 65536);
+}
+
 /* ---- The targets ---- */
 
 struct target {
@@ -954,6 +1053,8 @@ static const struct target targets[] = {
     {"narrow", narrow, 200},
     {"norm32", norm32, 200},
     {"norm64", norm64, 200},
+    {"angle", angle, 200},
+    {"cfo_frac", cfo_frac, 200},
 };
 
 #define TARGETS (sizeof targets / sizeof targets[0])

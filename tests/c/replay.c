@@ -36,7 +36,9 @@
     LINE(NORM64, "norm64")                   \
     LINE(FRAME_START, "frame_start")         \
     LINE(BIN_RATIO, "bin_ratio")             \
-    LINE(CARRIER_ROLE, "carrier_role")
+    LINE(CARRIER_ROLE, "carrier_role")       \
+    LINE(ANGLE, "angle")                     \
+    LINE(CFO_FRAC, "cfo_frac")
 
 #define NUMBER(number, name) number,
 #define NAME(number, name) name,
@@ -285,6 +287,8 @@ static uint8_t called(size_t function, struct call *c)
     case BIN_RATIO: return sillurwy_bin_ratio(in, in_len, f32s(c, 0, 1));
     case CARRIER_ROLE:
         return sillurwy_carrier_role(n8(c, 0), n8(c, 1), list, len, n[2], u8s(c, 0, 1));
+    case ANGLE: *i64s(c, 0, 1) = sillurwy_angle(c->wide[0], c->wide[1]); return 0;
+    case CFO_FRAC: *f64s(c, 0, 1) = sillurwy_cfo_frac(c->wide[0], c->wide[1]); return 0;
     default: fail("has a function that is not known", file_name);
     }
     return 0;
