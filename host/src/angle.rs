@@ -34,9 +34,9 @@ impl Angle {
 /// for none in [(-0.0, 0.0), (f64::INFINITY, 1.0), (1.0, f64::NAN)] {
 ///     assert_eq!(angle(none.0, none.1), Angle(0));
 /// }
-/// // The true angle is 5374.8.
+/// // The true angle is 5414.9.
 /// let Angle(units) = angle(7.0, 4.0);
-/// assert!([5374, 5375].contains(&units));
+/// assert!([5414, 5415].contains(&units));
 /// // A quarter turn adds 16384 round the circle.
 /// assert_eq!(angle(-4.0, 7.0), Angle(units + 16384));
 /// assert_eq!(angle(4.0, -7.0), Angle(units - 16384));

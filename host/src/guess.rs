@@ -10,7 +10,7 @@ pub const MOST_SAMPLES: usize = 1 << 20;
 /// The most symbols of [`samples_needed`].
 pub const MOST_SYMBOLS: usize = 64;
 
-/// A guess.
+/// A guess. Its correlation tells the fractional offset: [`cfo_frac`](ModeGuess::cfo_frac).
 #[derive(Debug, Clone, Copy, PartialEq)]
 pub struct ModeGuess {
     /// Mode.
@@ -21,7 +21,7 @@ pub struct ModeGuess {
     pub offset: usize,
     /// Normalised correlation.
     pub metric: f64,
-    /// Real part of the summed correlation, from which [`cfo_frac`](ModeGuess::cfo_frac) is told.
+    /// Real part of the summed correlation.
     pub re: f64,
     /// Imaginary part of the summed correlation.
     pub im: f64,
