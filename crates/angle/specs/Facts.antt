@@ -8,7 +8,7 @@ use Prim.Native.Nat.{ℕ, zero, suc, _+_, _-_, _*_, _%_, _<_}
 use native.Mathlib.Nat.{zero-mul, mul-pos}
 use native.Mathlib.Omega.{arith}
 use lib.Dec.{T, eqb, eqb→eq}
-use lib.IntN.{ℤ, pos, negsuc, negℤ, _+ℤ_}
+use lib.IntN.{ℤ, pos, negsuc, _+ℤ_}
 use lib.Ieee.{Float, nan, inf, fin, up, down, neg}
 use lib.Ieee.Exact.{HasValue}
 use lib.Ieee.Fits.{up-pos, down-pos}
@@ -35,14 +35,16 @@ pub angle-range : (p : Pair) → AngleRange (angleOf p)
 unfolding angleOf
 angle-range p = signed-range (circleOf (p .re) (p .im)) (circle-most (p .re) (p .im))
 
--- so it goes through an i32, negated too, and nothing is lost
-pub word : (z : ℤ) → AngleRange z → SFits w32 z × SFits w32 (negℤ z)
-word (pos zero) h = (record { sfits = omega arith }, record { sfits = omega arith })
-word (pos (suc n)) h = (record { sfits = omega arith }, record { sfits = omega arith })
-word (negsuc n) h = (record { sfits = omega arith }, record { sfits = omega arith })
+-- so nothing of it is lost in an i32
+pub angle-fits : (p : Pair) → SFits w32 (angleOf p)
+angle-fits p = by (angleOf p) (angle-range p)
+  where
+    by : (z : ℤ) → AngleRange z → SFits w32 z
+    by (pos n) h = record { sfits = omega arith }
+    by (negsuc n) h = record { sfits = omega arith }
 
-pub word-back : (p : Pair) (r : ℤ) → r ≡ angleOf p → toZ w32 (ofZ w32 r) ≡ angleOf p
-word-back p r e = ap (λ (z : ℤ). toZ w32 (ofZ w32 z)) e ∙ toZ-ofZ w32 (angleOf p) (word (angleOf p) (angle-range p) .0)
+pub angle-back : (p : Pair) (r : ℤ) → r ≡ angleOf p → toZ w32 (ofZ w32 r) ≡ angleOf p
+angle-back p r e = ap (λ (z : ℤ). toZ w32 (ofZ w32 z)) e ∙ toZ-ofZ w32 (angleOf p) (angle-fits p)
 
 -- ---- not finite
 pub not-finite-circle : (re im : Float) → T (not (finite re && finite im)) → circleOf re im ≡ 0
