@@ -113,6 +113,7 @@ macro_rules! acquire {
                     mode: guess.mode,
                     guard: guess.guard,
                     offset: guess.offset,
+                    cfo_frac: guess.cfo_frac,
                     re: guess.re,
                     im: guess.im,
                     metric: guess.metric,

@@ -76,6 +76,13 @@ impl<T, N: Norm<T>> Complex<T, N> {
     }
 }
 
+impl<N> Complex<f64, N> {
+    /// The angle, in radians.
+    pub fn arg(self) -> f64 {
+        self.im.atan2(self.re)
+    }
+}
+
 impl Norm<f32> for Exact {
     /// Squares and sum in `f64`, the nearest root, then to `f32`.
     #[inline]
@@ -173,6 +180,13 @@ mod tests {
         assert_eq!(y.norm_sqr(), 34.0);
         assert_eq!(x * 2.0, C32::new(2.0, 4.0));
         assert_eq!(x / 2.0, C32::new(0.5, 1.0));
+    }
+
+    #[test]
+    fn angle_by_the_signs_of_zero() {
+        let turns = |re, im| C64::new(re, im).arg() / std::f64::consts::TAU;
+        assert_eq!([turns(2.0, 0.0), turns(0.0, 3.0)], [0.0, 0.25]);
+        assert_eq!([turns(-2.0, 0.0), turns(-2.0, -0.0)], [0.5, -0.5]);
     }
 
     #[test]

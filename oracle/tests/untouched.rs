@@ -6,7 +6,6 @@ use oracle::acquire::{Oracle, Untouched};
 use oracle::harness::call::{Call, Floats};
 use oracle::harness::function::Function;
 use oracle::harness::run;
-use oracle::harness::value::Value;
 use oracle::inputs::floats::Pair;
 use oracle::isdb::params::{Mode, SEGMENTS};
 use oracle::ops::detect_mode::GuessCall;
@@ -21,13 +20,15 @@ use oracle::ops::{norm32, root};
 fn smallest_departing_pair() -> Pair<u32> {
     let Function {
         rust,
-        untouched,
+        departs,
         special,
         ..
     } = norm32::function();
-    let hypot = untouched.expect("norms have a second answer");
-    let departs = |pair: &Pair<u32>| hypot(*pair).compared_bits() != rust(*pair).compared_bits();
-    let smallest = special.into_iter().filter(departs).min();
+    let departs = departs.expect("norms have a second answer");
+    let departing = special
+        .into_iter()
+        .filter(|&pair| departs(pair, rust(pair)));
+    let smallest = departing.min();
     smallest.expect("some pair departs")
 }
 

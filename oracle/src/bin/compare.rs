@@ -1,11 +1,13 @@
 //! Compares the proved port with the Rust, operation by operation: every layout, every bin, every
 //! refusal at its boundary, random calls, the functions of floats, acquisition, the grid, and the
-//! program `segments`. Of acquisition it also compares the port with itself, on changed captures.
-//! Where a norm is taken it counts the departures of the untouched Rust.
+//! program `segments`. Of acquisition it also compares the port with itself, on changed captures, and
+//! of the angle on changed pairs. Where a norm is taken, and of the fractional offset, it counts the
+//! departures of the untouched Rust.
 
 use oracle::harness::args::Args;
 use oracle::harness::run::Plan;
-use oracle::harness::tally::{NansLeft, Provisos, Row, print_table};
+use oracle::harness::tally::{Farthest, NansLeft, Provisos, Row, print_table};
+use oracle::ops::angle::{ASKED, LIMIT};
 use oracle::ops::{self, OPERATIONS, Operation};
 use std::process::ExitCode;
 use std::time::Instant;
@@ -18,8 +20,8 @@ compare: the proved port beside the Rust
   --seed N    seed of the random calls, the random floats and the damaged lines (default 1)
   --cases N   random calls of each operation (default 4096); of the carrier role five times as
               many, since at least 20,000 are asked for
-  --floats N  random inputs of each function of floats (default 100,000,000; with --quick
-              15,000,000)
+  --floats N  random inputs of each function of floats, and changed pairs of the angle (default
+              100,000,000; with --quick 15,000,000)
   --captures N
               random calls of each operation of acquisition and of the grid, changed captures of
               each operation of acquisition, and partly silent captures of the pilot phase
@@ -30,7 +32,7 @@ compare: the proved port beside the Rust
 
 Environment: SILLURWY_SEGMENTS is the path of the program segments.
 Exit status: 0 no difference; 1 a difference; 2 bad usage, or the program could not be run. A
-departure of the untouched Rust, whose norms are hypot, is no difference.";
+departure of the untouched Rust, whose norms are hypot and whose angle is atan2, is no difference.";
 
 /// Random inputs of each function of floats, unless `--floats` is given.
 const FLOATS: u64 = 100_000_000;
@@ -163,6 +165,22 @@ fn print_nans_left(rows: &[Row]) {
     }
 }
 
+/// Prints how far the angle and the fractional offset were from those of `atan2`, where they were asked.
+fn print_farthest(rows: &[Row]) {
+    let farthest = |row: &Row| {
+        let Farthest { distance, at } = row.farthest()?;
+        Some(format!("  {}: {distance:.6}, at {at}", row.name()))
+    };
+    let lines: Vec<String> = rows.iter().filter_map(farthest).collect();
+    if !lines.is_empty() {
+        println!(
+            "\nfarthest from `atan2`, in 1/65536 of a turn round the circle; more than {LIMIT} is a \
+             difference, and {ASKED} are allowed:\n{}",
+            lines.join("\n")
+        );
+    }
+}
+
 fn main() -> ExitCode {
     let options = options();
     let (rows, not_run): (Vec<Row>, Vec<Row>) = compare(&options)
@@ -171,6 +189,7 @@ fn main() -> ExitCode {
     let differences = print_table(&rows);
     print_provisos(&rows);
     print_nans_left(&rows);
+    print_farthest(&rows);
     println!(
         "\nseed {}{}, {differences} differences",
         options.plan.seed,

@@ -2,6 +2,7 @@
 //! and what lies around it.
 
 use super::lent::{Lent, Pattern, Shown};
+use super::tally::Farthest;
 
 /// The values that a call writes from the start of its output, or the number of its refusal.
 pub type Answer<T> = Result<Vec<T>, u8>;
@@ -42,6 +43,12 @@ impl Compared {
         self
     }
 
+    /// What else must hold: the first thing that does not.
+    pub fn also(mut self, broken: impl FnOnce() -> Option<String>) -> Self {
+        self.difference = self.difference.or_else(broken);
+        self
+    }
+
     /// Values that were lent to be read.
     pub fn shown<T: Pattern>(mut self, shown: &Shown<'_, T>, name: &str) -> Self {
         self.difference = self.difference.or_else(|| shown.written(name));
@@ -60,6 +67,8 @@ pub struct Outcome {
     pub departs: Option<bool>,
     /// NaNs that were lent and had to be left, whose bytes were compared.
     pub nans_left: u64,
+    /// How far something of it was from what it had to come near; none where nothing had to.
+    pub farthest: Option<Farthest>,
 }
 
 impl Outcome {
@@ -70,6 +79,7 @@ impl Outcome {
             difference: compared.difference,
             departs: None,
             nans_left: compared.nans_left,
+            farthest: None,
         }
     }
 

@@ -41,6 +41,13 @@ impl Entry for i64 {
     }
 }
 
+impl Entry for i32 {
+    /// As the shift, the one signed number besides: eight bytes.
+    fn bytes(&self) -> Vec<u8> {
+        i64::from(*self).bytes()
+    }
+}
+
 impl Entry for f32 {
     fn bytes(&self) -> Vec<u8> {
         self.compared_bits().to_le_bytes()[..4].to_vec()
@@ -233,6 +240,12 @@ mod tests {
         let zeros = [2, 0, 1, 0, 0, 0, 0, 0, 0, 0, 0];
         let wanted = [&head[..], &handed, &words, &zeros, &[0, 0, 0]].concat();
         assert_eq!(record.stored(2), wanted);
+    }
+
+    #[test]
+    fn a_signed_number_has_eight_bytes() {
+        assert_eq!((-2_i32).bytes(), (-2_i64).bytes());
+        assert_eq!((-2_i32).bytes(), [254, 255, 255, 255, 255, 255, 255, 255]);
     }
 
     #[test]

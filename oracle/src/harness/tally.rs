@@ -28,6 +28,15 @@ impl NansLeft {
     }
 }
 
+/// The largest distance that was met of a result from what it had to come near.
+#[derive(Debug, Clone, PartialEq)]
+pub struct Farthest {
+    /// The distance.
+    pub distance: f64,
+    /// The input.
+    pub at: String,
+}
+
 /// What came of a number of cases whose inputs are of type `K`.
 #[derive(Debug)]
 pub struct Tally<K> {
@@ -36,6 +45,7 @@ pub struct Tally<K> {
     differences: u64,
     departures: Option<u64>,
     nans_left: NansLeft,
+    farthest: Option<Farthest>,
     smallest: Option<(K, String)>,
 }
 
@@ -47,6 +57,7 @@ impl<K> Default for Tally<K> {
             differences: 0,
             departures: None,
             nans_left: NansLeft::default(),
+            farthest: None,
             smallest: None,
         }
     }
@@ -68,6 +79,7 @@ impl<K: Ord + Display> Tally<K> {
         self.count(outcome.refused, outcome.difference, call);
         self.count_departure(outcome.departs);
         self.count_nans_left(outcome.refused, outcome.nans_left);
+        self.add_farthest(outcome.farthest);
     }
 
     /// Counts a departure of the untouched Rust, which is no difference, or that there is none; a row
@@ -91,6 +103,28 @@ impl<K: Ord + Display> Tally<K> {
         }
     }
 
+    /// Counts how far a result is from what it had to come near. `at` is asked for only where it is the
+    /// farthest so far.
+    pub fn count_distance(&mut self, distance: f64, at: impl FnOnce() -> String) {
+        let met = self.farthest.as_ref().map(|met| met.distance);
+        if met.is_none_or(|met| distance > met) {
+            let at = at();
+            self.farthest = Some(Farthest { distance, at });
+        }
+    }
+
+    /// Of equal distances the lower words stay, so that the order of the threads does not show.
+    fn add_farthest(&mut self, other: Option<Farthest>) {
+        let Some(other) = other else { return };
+        let farther = self.farthest.as_ref().is_none_or(|met| {
+            let lower = other.distance == met.distance && other.at < met.at;
+            other.distance > met.distance || lower
+        });
+        if farther {
+            self.farthest = Some(other);
+        }
+    }
+
     /// Adds what another tally counted.
     pub fn add(&mut self, other: Self) {
         self.cases += other.cases;
@@ -98,6 +132,7 @@ impl<K: Ord + Display> Tally<K> {
         self.differences += other.differences;
         self.add_departures(other.departures);
         self.nans_left.add(other.nans_left);
+        self.add_farthest(other.farthest);
         if let Some((input, found)) = other.smallest {
             self.keep_smaller(input, found);
         }
@@ -137,6 +172,7 @@ impl<K: Ord + Display> Tally<K> {
             differences: self.differences,
             departures: self.departures,
             nans_left: self.nans_left,
+            farthest: self.farthest,
             provisos: Provisos::default(),
             failure: None,
             smallest: self
@@ -155,6 +191,7 @@ pub struct Row {
     differences: u64,
     departures: Option<u64>,
     nans_left: NansLeft,
+    farthest: Option<Farthest>,
     provisos: Provisos,
     failure: Option<String>,
     smallest: Option<String>,
@@ -228,6 +265,11 @@ impl Row {
         self.nans_left
     }
 
+    /// The largest distance of a result from what it had to come near; none where nothing had to.
+    pub fn farthest(&self) -> Option<&Farthest> {
+        self.farthest.as_ref()
+    }
+
     /// The smallest failing input and what was found.
     pub fn smallest(&self) -> Option<&str> {
         self.smallest.as_deref()
@@ -235,8 +277,9 @@ impl Row {
 }
 
 /// Why there is no number of departures.
-const NOT_ASKED: &str = "not asked. Where no norm is taken, the untouched Rust is the oracle itself; \
-                         changed captures compare the port with itself.";
+const NOT_ASKED: &str = "not asked. Where no norm is taken, the untouched Rust is the oracle itself, but \
+                         for the angle, which it has not as a whole number; changed captures and \
+                         changed pairs compare the port with itself.";
 
 /// Prints the table and the smallest failing inputs. Gives the number of differences.
 pub fn print_table(rows: &[Row]) -> u64 {
@@ -327,6 +370,19 @@ mod tests {
         let (refused, accepted) = (8, 4);
         assert_eq!(NansLeft::sum(&rows), NansLeft { refused, accepted });
         assert_eq!(rows[0].nans_left(), NansLeft::sum(&rows));
+    }
+
+    #[test]
+    fn keeps_the_largest_distance() {
+        let mut parts = [Tally::<u8>::default(), Tally::default()];
+        for (distance, at) in [(0.5, "b"), (0.25, "a"), (0.5, "a")] {
+            parts[0].count_distance(distance, || at.to_string());
+        }
+        parts[1].count_distance(0.5, || "a".to_string());
+        let row = Tally::sum(parts).row("sum");
+        let (distance, at) = (0.5, "a".to_string());
+        assert_eq!(row.farthest(), Some(&Farthest { distance, at }));
+        assert_eq!(Tally::<u8>::default().row("").farthest(), None);
     }
 
     #[test]

@@ -55,22 +55,22 @@ impl<B: LowerHex> fmt::Display for Pair<B> {
 /// A random input of one class.
 pub type Class<I> = fn(&mut Rng) -> I;
 
-const SIGN_64: u64 = 1 << 63;
+pub(super) const SIGN_64: u64 = 1 << 63;
 const SIGN_32: u32 = 1 << 31;
 /// Digits of the fraction.
-const FRACTION_64: u32 = 52;
+pub(super) const FRACTION_64: u32 = 52;
 const FRACTION_32: u32 = 23;
 /// The exponent's bits of the numbers from 1 to 2.
 const BIAS_64: u64 = 1023;
 const BIAS_32: u64 = 127;
 /// The exponent's bits of infinity.
-const TOP_64: u64 = 2047;
+pub(super) const TOP_64: u64 = 2047;
 const TOP_32: u64 = 255;
 /// Half of the step from one `f32` to the next, in steps of `f64`.
 const HALF_STEP: u64 = 1 << 28;
 
 /// 2 to the power of `exponent`, a normal number.
-fn power_of_two(exponent: i32) -> f64 {
+pub(super) fn power_of_two(exponent: i32) -> f64 {
     f64::from_bits(BIAS_64.wrapping_add_signed(i64::from(exponent)) << FRACTION_64)
 }
 
@@ -198,7 +198,7 @@ pub fn special_pairs_32() -> Vec<Pair<u32>> {
 }
 
 /// Random numbers of several shapes, as bits.
-mod draw {
+pub(super) mod draw {
     use super::*;
 
     /// A number from `low` to `high`.
@@ -374,7 +374,7 @@ fn parts_32(rng: &mut Rng, low: u64, high: u64, apart: u64) -> Pair<u32> {
 }
 
 /// The same for `f64`.
-fn parts_64(rng: &mut Rng, low: u64, high: u64, apart: u64) -> Pair<u64> {
+pub(super) fn parts_64(rng: &mut Rng, low: u64, high: u64, apart: u64) -> Pair<u64> {
     let larger = draw::between(rng, low, high);
     let smaller = larger.saturating_sub(draw::between(rng, 0, apart));
     let large = draw::with_exponent_64(rng, larger);
@@ -382,7 +382,7 @@ fn parts_64(rng: &mut Rng, low: u64, high: u64, apart: u64) -> Pair<u64> {
     either_order(rng, large, small)
 }
 
-fn either_order<B>(rng: &mut Rng, one: B, other: B) -> Pair<B> {
+pub(super) fn either_order<B>(rng: &mut Rng, one: B, other: B) -> Pair<B> {
     if rng.once_in(2) {
         Pair { re: one, im: other }
     } else {
@@ -446,7 +446,7 @@ pub const NORM_32: &[Class<Pair<u32>>] = &[
 ];
 
 /// Any pair.
-fn any_pair_64(rng: &mut Rng) -> Pair<u64> {
+pub(super) fn any_pair_64(rng: &mut Rng) -> Pair<u64> {
     Pair {
         re: rng.next_u64(),
         im: rng.next_u64(),
@@ -454,7 +454,7 @@ fn any_pair_64(rng: &mut Rng) -> Pair<u64> {
 }
 
 /// Parts of about one size, whose squares neither overflow nor are subnormal.
-fn alike_64(rng: &mut Rng) -> Pair<u64> {
+pub(super) fn alike_64(rng: &mut Rng) -> Pair<u64> {
     parts_64(rng, BIAS_64 - 500, BIAS_64 + 510, 3)
 }
 

@@ -1,6 +1,8 @@
 //! What calls are made of: arguments around their boundaries, layouts, captures, partly silent ones,
-//! samples, floats, changes of a capture, questions; whole captures that are stored; and what is timed.
+//! samples, floats, pairs for the angle, changes of a capture, questions; whole captures that are
+//! stored; and what is timed.
 
+pub mod angles;
 pub mod arguments;
 pub mod captures;
 pub mod changes;

@@ -1,9 +1,12 @@
-//! The guess: mode, guard and offset of samples, by the correlation of guard intervals.
+//! The guess: mode, guard and offset of samples, by the correlation of guard intervals; and the
+//! fractional offset that the port makes from both its parts.
 
 use super::Operation;
+use super::cfo_frac::{self, OfGuess};
 use crate::C32;
 use crate::acquire::{Acquire, Oracle, Untouched};
 use crate::codes::{BAD_FLOATS, BAD_LENGTH, GUARDS, MODES, guards_of, modes_of};
+use crate::complex::C64;
 use crate::harness::call::{Call, Floats, Unfilled, accept, write_answer};
 use crate::harness::changed::{self, Claim, Verdict, accepted, both, differ, floats_differ};
 use crate::harness::lent::{Lent, Shown};
@@ -88,6 +91,8 @@ pub struct Guess {
     pub re: f64,
     /// Imaginary part of the summed correlation.
     pub im: f64,
+    /// Fractional offset: the Rust's own, or the one that is made from the port's two parts.
+    pub cfo_frac: f64,
 }
 
 /// The most pairs of samples.
@@ -119,6 +124,7 @@ pub fn answer<R: Acquire>(
         metric: guess.metric,
         re: guess.re,
         im: guess.im,
+        cfo_frac: guess.cfo_frac,
     }))
 }
 
@@ -326,6 +332,21 @@ impl GuessLent {
     }
 }
 
+/// The fractional offset that a port makes from the parts of a guess, beside the Rust's, if one was
+/// found.
+fn of_guess(
+    port: cfo_frac::Port,
+    parts: C64,
+    answer: &Result<Option<Guess>, u8>,
+) -> Option<OfGuess> {
+    let guess = answer.as_ref().ok()?.as_ref()?;
+    Some(OfGuess {
+        parts,
+        port: port(parts.re, parts.im),
+        rust: guess.cfo_frac,
+    })
+}
+
 /// 1 if there is a guess.
 fn is_found(guess: &Option<Guess>) -> Vec<u8> {
     vec![u8::from(guess.is_some())]
@@ -336,14 +357,10 @@ fn each<T>(guess: &Option<Guess>, of: fn(&Guess) -> T) -> Vec<T> {
     guess.iter().map(of).collect()
 }
 
-impl Call for GuessCall {
-    const TITLE: &'static str = "guess";
-    const STREAM: u64 = 505;
-    type Port = Port;
-    const LINKED: Port = linked;
-    const RUST: Port = rust;
-
-    fn run(&self, port: Port, salt: u64) -> Outcome {
+impl GuessCall {
+    /// Makes the call and compares it; of the guess that is found, also what a port of the fractional
+    /// offset makes from its parts.
+    pub fn run_with(&self, port: Port, cfo_frac: cfo_frac::Port, salt: u64) -> Outcome {
         let samples = Shown::new(&self.samples.0);
         let (modes, guards) = (Shown::new(&self.modes), Shown::new(&self.guards));
         let mut scratch = Lent::new(self.scratch, salt);
@@ -355,6 +372,7 @@ impl Call for GuessCall {
             scratch.slice(),
             guess.out(),
         );
+        let parts = C64::new(*guess.re.entry(), *guess.im.entry());
         let zeros = |_: &Option<Guess>| vec![0.0; self.scratch];
         let compared = |answer: &_| {
             guess
@@ -363,12 +381,25 @@ impl Call for GuessCall {
                 .shown(&samples, "samples")
                 .shown(&modes, "modes")
                 .shown(&guards, "guards")
+                .also(|| of_guess(cfo_frac, parts, answer)?.difference())
         };
-        Outcome::of_both(
-            &self.answer::<Oracle>(),
-            &self.answer::<Untouched>(),
-            compared,
-        )
+        let answer = self.answer::<Oracle>();
+        Outcome {
+            farthest: of_guess(cfo_frac, parts, &answer).map(|offset| offset.farthest()),
+            ..Outcome::of_both(&answer, &self.answer::<Untouched>(), compared)
+        }
+    }
+}
+
+impl Call for GuessCall {
+    const TITLE: &'static str = "guess";
+    const STREAM: u64 = 505;
+    type Port = Port;
+    const LINKED: Port = linked;
+    const RUST: Port = rust;
+
+    fn run(&self, port: Port, salt: u64) -> Outcome {
+        self.run_with(port, ffi::cfo_frac, salt)
     }
 
     fn floats(&mut self) -> Option<&mut Floats> {
@@ -405,11 +436,18 @@ fn compare(plan: &Plan) -> Vec<Row> {
     vec![
         run::boundary::<GuessCall>(GuessCall::LINKED, plan.seed),
         run::random::<GuessCall>(GuessCall::LINKED, plan.seed, plan.captures),
-        changed::claim::<GuessArguments>(GuessCall::LINKED, plan.seed, plan.captures),
+        changed::claim::<GuessArguments>(
+            (GuessCall::LINKED, ffi::cfo_frac),
+            plan.seed,
+            plan.captures,
+        ),
     ]
 }
 
 // ---- Changed captures
+
+/// The port of the guess, and that of the fractional offset.
+pub type Ports = (Port, cfo_frac::Port);
 
 /// The other arguments.
 #[derive(Debug, Clone, PartialEq, Eq, PartialOrd, Ord)]
@@ -421,7 +459,7 @@ pub struct GuessArguments {
 }
 
 impl GuessArguments {
-    fn ask(&self, port: Port, samples: &[f32]) -> Result<Option<Guess>, u8> {
+    fn ask(&self, (port, cfo_frac): Ports, samples: &[f32]) -> Result<Option<Guess>, u8> {
         let mut scratch = vec![0.0; scratch_needed(samples.len() / 2)];
         let (mut found, mut mode, mut guard, mut offset) = (0, 0, 0, 0);
         let (mut metric, mut re, mut im) = (0.0, 0.0, 0.0);
@@ -443,6 +481,7 @@ impl GuessArguments {
                 metric,
                 re,
                 im,
+                cfo_frac: cfo_frac(re, im),
             })
         })
     }
@@ -467,11 +506,12 @@ fn samples_for(
     samples::received_whole(rng, mode, guard, pairs)
 }
 
-/// What is compared of a guess: mode, guard and offset, then metric and both parts.
-fn guess_parts(guess: &Option<Guess>, gain: f64) -> (Option<(u8, u8, usize)>, [f64; 3]) {
+/// What is compared of a guess: mode, guard and offset, then metric, both parts and fractional offset.
+fn guess_parts(guess: &Option<Guess>, gain: f64) -> (Option<(u8, u8, usize)>, [f64; 4]) {
     let places = guess.map(|guess| (guess.mode, guess.guard, guess.offset));
-    let values = guess.map_or([0.0; 3], |guess| {
-        [guess.metric, guess.re * gain * gain, guess.im * gain * gain]
+    let values = guess.map_or([0.0; 4], |guess| {
+        let (re, im) = (guess.re * gain * gain, guess.im * gain * gain);
+        [guess.metric, re, im, guess.cfo_frac]
     });
     (places, values)
 }
@@ -479,7 +519,7 @@ fn guess_parts(guess: &Option<Guess>, gain: f64) -> (Option<(u8, u8, usize)>, [f
 impl Claim for GuessArguments {
     const TITLE: &'static str = "guess, changed";
     const STREAM: u64 = 603;
-    type Port = Port;
+    type Port = Ports;
 
     /// Samples are negated, all or none, turned and amplified, and nothing else.
     fn random(rng: &mut Rng) -> Changed<Self> {
@@ -508,8 +548,9 @@ impl Claim for GuessArguments {
         }
     }
 
-    /// Both parts are kept under signs and turn, and multiplied by the gain twice.
-    fn verdict(port: Port, case: &Changed<Self>) -> Verdict {
+    /// Both parts are kept under signs and turn, and multiplied by the gain twice. The fractional offset
+    /// is kept.
+    fn verdict(port: Ports, case: &Changed<Self>) -> Verdict {
         let (asked, floats) = (&case.arguments, &case.floats.0);
         let pairs = floats.len() / 2;
         let before = asked.ask(port, floats);
@@ -518,7 +559,7 @@ impl Claim for GuessArguments {
             let (places, values) = guess_parts(before, f64::from(case.change.gain()));
             let (places_after, values_after) = guess_parts(after, 1.0);
             differ("mode, guard and offset", places, places_after)
-                .or_else(|| floats_differ("metric, re and im", &values, &values_after))
+                .or_else(|| floats_differ("metric, re, im and cfo_frac", &values, &values_after))
         })
     }
 }
@@ -540,6 +581,7 @@ fn port_guess(floats: &[f32], modes: &[u8], scratch: &mut [f64]) -> Guess {
         metric: 0.0,
         re: 0.0,
         im: 0.0,
+        cfo_frac: 0.0,
     };
     let out = GuessOut {
         found: &mut found,
@@ -568,6 +610,9 @@ fn bench(effort: &Effort) -> Vec<timing::Row> {
         let right = answer::<Oracle>(floats, &modes, &GUARDS, scratch.len());
         let put_in = (timed::MODE.number(), GUARD.denominator());
         assert_eq!((guess.mode, usize::from(guess.guard)), put_in);
+        // What is timed makes no fractional offset.
+        let cfo_frac = guess.cfo_frac;
+        let right = right.map(|right| right.map(|right| Guess { cfo_frac, ..right }));
         assert_eq!(right, Ok(Some(guess)));
     }
     vec![row(

@@ -2,9 +2,11 @@
 //! the calls that are compared, its rows of the benchmark, its stored answers. The programs `compare`,
 //! `bench` and `store` go through [`OPERATIONS`] and know no operation by its name.
 
+pub mod angle;
 pub mod bin_ratio;
 pub mod carrier_bin;
 pub mod carrier_role;
+pub mod cfo_frac;
 pub mod continual_list;
 pub mod data_list;
 pub mod detect_kinds;
@@ -51,7 +53,7 @@ pub struct Operation {
 }
 
 /// Every operation, part by part.
-pub const OPERATIONS: [Operation; 20] = [
+pub const OPERATIONS: [Operation; 22] = [
     carrier_bin::OPERATION,
     role_map::OPERATION,
     carrier_role::OPERATION,
@@ -71,6 +73,8 @@ pub const OPERATIONS: [Operation; 20] = [
     narrow::OPERATION,
     norm32::OPERATION,
     norm64::OPERATION,
+    angle::OPERATION,
+    cfo_frac::OPERATION,
     segments::OPERATION,
 ];
 
@@ -160,12 +164,12 @@ mod tests {
         let declared = |line: &'static str| {
             let (before, _) = line.split_once('(')?;
             let (kind, name) = before.split_once(" sillurwy_")?;
-            ["uint8_t", "float", "double"]
+            ["uint8_t", "int32_t", "float", "double"]
                 .contains(&kind)
                 .then_some(name)
         };
         let functions = distinct(header.lines().filter_map(declared));
-        assert!(functions.len() >= 19, "{functions:?}");
+        assert!(functions.len() >= 21, "{functions:?}");
         let rows = distinct(numbered().into_iter().map(|(_, row)| row.name));
         assert_eq!(functions, rows);
     }
@@ -206,7 +210,7 @@ mod tests {
     #[test]
     fn functions_of_floats_are_timed() {
         let functions = timed("floats");
-        assert!(functions.len() >= 4);
+        assert!(functions.len() >= 6);
         for (name, rows) in functions {
             let named = |row: &String| row.starts_with(&format!("{name}, "));
             assert!(

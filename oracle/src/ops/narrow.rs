@@ -33,7 +33,8 @@ pub fn function() -> Function<One, f32> {
         name: "narrow",
         port: |x| ffi::narrow(x.value()),
         rust: |x| x.value() as f32,
-        untouched: None,
+        near: None,
+        departs: None,
         special: floats::special_ones(),
         classes: floats::NARROW,
     }

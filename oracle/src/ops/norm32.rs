@@ -8,6 +8,7 @@ use crate::harness::run::Plan;
 use crate::harness::stored::Record;
 use crate::harness::tally::Row;
 use crate::harness::timing::{self, Effort};
+use crate::harness::value::Value;
 use crate::inputs::floats::{self, Pair};
 use crate::inputs::timed_floats::{ANY, FLOATS, WHOLE, norm_rows, whole_pairs};
 use sillurwy::ffi;
@@ -33,7 +34,11 @@ pub fn function() -> Function<Pair<u32>, f32> {
         name: "norm32",
         port: |pair| ffi::norm32(pair.value().re, pair.value().im),
         rust: |pair| pair.value().norm(),
-        untouched: Some(|pair| hypot::C32::new(pair.value().re, pair.value().im).norm()),
+        near: None,
+        departs: Some(|pair, port| {
+            let norm = hypot::C32::new(pair.value().re, pair.value().im).norm();
+            norm.compared_bits() != port.compared_bits()
+        }),
         special: floats::special_pairs_32(),
         classes: floats::NORM_32,
     }

@@ -8,8 +8,9 @@ use crate::harness::run::Plan;
 use crate::harness::stored::Record;
 use crate::harness::tally::Row;
 use crate::harness::timing::{self, Effort};
+use crate::harness::value::Value;
 use crate::inputs::floats::{self, Pair};
-use crate::inputs::timed_floats::{ANY, FLOATS, WHOLE, finite_numbers, norm_rows, whole_pairs};
+use crate::inputs::timed_floats::{ANY, WHOLE, finite_pairs, norm_rows, whole_pairs};
 use sillurwy::ffi;
 
 pub const OPERATION: Operation = Operation {
@@ -33,7 +34,11 @@ pub fn function() -> Function<Pair<u64>, f64> {
         name: "norm64",
         port: |pair| ffi::norm64(pair.value().re, pair.value().im),
         rust: |pair| pair.value().norm(),
-        untouched: Some(|pair| hypot::C64::new(pair.value().re, pair.value().im).norm()),
+        near: None,
+        departs: Some(|pair, port| {
+            let norm = hypot::C64::new(pair.value().re, pair.value().im).norm();
+            norm.compared_bits() != port.compared_bits()
+        }),
         special: floats::special_pairs_64(),
         classes: floats::NORM_64,
     }
@@ -56,13 +61,6 @@ extern "C" fn rust_norm(re: f64, im: f64) -> f64 {
 #[inline(never)]
 extern "C" fn rust_hypot(re: f64, im: f64) -> f64 {
     re.hypot(im)
-}
-
-/// Random bits of pairs of finite numbers.
-fn finite_pairs() -> Vec<C64> {
-    let numbers = finite_numbers(2 * FLOATS);
-    let pair = |parts: &[f64]| C64::new(parts[0], parts[1]);
-    numbers.chunks_exact(2).map(pair).collect()
 }
 
 fn rows(what: &str, inputs: &[C64], effort: &Effort) -> [timing::Row; 2] {

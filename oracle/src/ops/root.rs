@@ -33,7 +33,8 @@ pub fn function() -> Function<One, f64> {
         name: "root",
         port: |x| ffi::root(x.value()),
         rust: |x| x.value().sqrt(),
-        untouched: None,
+        near: None,
+        departs: None,
         special: floats::special_ones(),
         classes: floats::ROOT,
     }

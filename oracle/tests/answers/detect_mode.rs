@@ -9,7 +9,9 @@ use oracle::inputs::arguments::{fewest_pairs, mode_numbers};
 use oracle::inputs::captures::draw;
 use oracle::inputs::samples;
 use oracle::isdb::params::{GuardInterval, Mode};
+use oracle::ops::cfo_frac;
 use oracle::ops::detect_mode::{Guess, GuessArguments, GuessCall, Port, answer, scratch_needed};
+use sillurwy::ffi;
 
 /// The guess with only 1/32 tried in mode 1, on both sides.
 fn guess_of(samples: Vec<f32>) -> Option<Guess> {
@@ -84,17 +86,17 @@ fn random_calls_meet_nans_and_silence() {
     }
 }
 
-fn has_none(port: Port) {
+fn has_none(port: Port, cfo_frac: cfo_frac::Port) {
     has_no_difference::<GuessCall>(port, 100);
-    keeps_the_claim::<GuessArguments>(port, 100);
+    keeps_the_claim::<GuessArguments>((port, cfo_frac), 100);
 }
 
 #[test]
 fn the_port_has_no_difference() {
-    has_none(GuessCall::LINKED);
+    has_none(GuessCall::LINKED, ffi::cfo_frac);
 }
 
 #[test]
 fn the_rust_has_no_difference_to_itself() {
-    has_none(GuessCall::RUST);
+    has_none(GuessCall::RUST, cfo_frac::right);
 }

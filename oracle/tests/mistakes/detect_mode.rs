@@ -5,8 +5,11 @@ use oracle::C32;
 use oracle::acquire::{Acquire, Oracle};
 use oracle::codes::mode_of;
 use oracle::complex::C64;
-use oracle::harness::call::write_answer;
-use oracle::ops::detect_mode::{Guess, GuessArguments, GuessCall, Port, answer, write};
+use oracle::harness::call::{Call, write_answer};
+use oracle::harness::rng::Rng;
+use oracle::ops::cfo_frac::{self, OfGuess};
+use oracle::ops::detect_mode::{Guess, GuessArguments, GuessCall, Port, Ports, answer, write};
+use sillurwy::ffi;
 
 /// What decides in the search: an energy is passed over, a metric is better.
 #[derive(Clone, Copy)]
@@ -84,6 +87,7 @@ fn guess_by(
                         metric,
                         re: g.re,
                         im: g.im,
+                        cfo_frac: cfo_frac::rust(g.re, g.im),
                     });
                 }
             }
@@ -201,9 +205,14 @@ fn an_answer_that_quiets_what_it_leaves_is_found() {
     });
 }
 
+/// The claim is broken by a port of the guess, beside the linked one of the fractional offset.
+fn guess_is_broken(what: &str, port: Port) {
+    is_broken::<GuessArguments>(what, (port, ffi::cfo_frac));
+}
+
 #[test]
 fn an_answer_that_depends_on_the_gain_breaks_the_claim() {
-    is_broken::<GuessArguments>("metric", |samples, modes, guards, scratch, out| {
+    guess_is_broken("metric", |samples, modes, guards, scratch, out| {
         let answer = answer::<Oracle>(samples, modes, guards, scratch.len());
         let answer = answer.map(|guess| {
             guess.map(|guess| Guess {
@@ -217,7 +226,7 @@ fn an_answer_that_depends_on_the_gain_breaks_the_claim() {
 
 #[test]
 fn parts_that_turn_break_the_claim() {
-    is_broken::<GuessArguments>("parts", |samples, modes, guards, scratch, out| {
+    guess_is_broken("parts", |samples, modes, guards, scratch, out| {
         let answer = answer::<Oracle>(samples, modes, guards, scratch.len());
         let first = samples.first().copied().unwrap_or(0.0);
         let answer = answer.map(|guess| {
@@ -228,4 +237,51 @@ fn parts_that_turn_break_the_claim() {
         });
         write(answer, scratch, out)
     });
+}
+
+/// True if some random call shows that the fractional offset is not the port's.
+fn offset_is_found(cfo_frac: cfo_frac::Port) -> bool {
+    (0..200).any(|index| {
+        let call = GuessCall::random(&mut Rng::for_case(1, GuessCall::STREAM, index));
+        let outcome = call.run_with(GuessCall::LINKED, cfo_frac, index);
+        let found = outcome.difference.unwrap_or_default();
+        found.starts_with("fractional offset: ")
+    })
+}
+
+#[test]
+fn mistakes_in_the_fractional_offset_of_a_guess_are_found() {
+    assert!(!offset_is_found(ffi::cfo_frac));
+    assert!(!offset_is_found(cfo_frac::right));
+    assert!(offset_is_found(|re, im| -ffi::cfo_frac(re, im)));
+    assert!(offset_is_found(
+        |re, im| ffi::cfo_frac(re, im) + 2.0 / 65536.0
+    ));
+    // The Rust's own is NaN, or the angle of an infinity, where the request has 0.
+    assert!(offset_is_found(cfo_frac::rust));
+}
+
+#[test]
+fn a_part_that_is_minus_zero_is_found() {
+    let of_guess = |parts| OfGuess {
+        parts,
+        port: 0.0,
+        rust: 0.0,
+    };
+    assert_eq!(of_guess(C64::new(0.0, 0.0)).difference(), None);
+    assert_eq!(of_guess(C64::new(1.0, 0.0)).difference(), None);
+    let parts = [C64::new(-0.0, 0.0), C64::new(1.0, -0.0)];
+    for found in parts.map(|parts| of_guess(parts).difference()) {
+        assert!(found.unwrap().starts_with("a part is −0.0: "));
+    }
+}
+
+#[test]
+fn a_fractional_offset_that_changes_breaks_the_claim() {
+    // By the gain: whole parts are larger, and their lower digits are other ones.
+    let by_size: Ports = (GuessCall::LINKED, |re, im| {
+        let size = if re.abs() > 1e9 { 1.0 / 65536.0 } else { 0.0 };
+        ffi::cfo_frac(re, im) + size
+    });
+    is_broken::<GuessArguments>("by size", by_size);
 }

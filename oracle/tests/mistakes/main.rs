@@ -2,9 +2,11 @@
 //! must be found. So must ports that break what is claimed of changed captures. A module has the
 //! mistakes of one operation.
 
+mod angle;
 mod bin_ratio;
 mod carrier_bin;
 mod carrier_role;
+mod cfo_frac;
 mod continual_list;
 mod data_list;
 mod detect_kinds;

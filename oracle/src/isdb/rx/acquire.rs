@@ -1,9 +1,9 @@
 // Carried over from isdb-rs 754ed06c49 (Apache-2.0, see NOTICE).
 // From crates/isdbt-ofdm/src/rx/acquire.rs. Changed: the paths of the `use` lines and of
-// `pilot_value`; `num_complex::Complex64` is `C64`; `ModeGuess` has both parts of the summed
-// correlation in place of `cfo_frac`; `detect_sp_phase` hands out, beside its answer, the
-// votes and of each symbol a `Ballot`: the phase that it chooses and the energies of the four pilot
-// sets.
+// `pilot_value`; `num_complex::Complex64` is `C64`; `ModeGuess` has, beside `cfo_frac`, both
+// parts of the summed correlation, whose angle that is; `detect_sp_phase` hands out, beside its
+// answer, the votes and of each symbol a `Ballot`: the phase that it chooses and the energies of the
+// four pilot sets.
 
 //! Acquisition: mode / guard-interval detection, symbol timing and
 //! fractional CFO from guard-interval autocorrelation; integer CFO from
@@ -26,6 +26,8 @@ pub struct ModeGuess {
     pub guard: GuardInterval,
     /// Offset in the analysed buffer of a guard-interval start (0 ≤ offset < symbol length).
     pub offset: usize,
+    /// Fractional CFO in carrier spacings, (−0.5, 0.5].
+    pub cfo_frac: f64,
     /// Real part of the summed correlation.
     pub re: f64,
     /// Imaginary part of the summed correlation.
@@ -114,6 +116,7 @@ pub fn detect_mode(buf: &[C32], modes: &[Mode], guards: &[GuardInterval]) -> Opt
                         mode,
                         guard,
                         offset: d,
+                        cfo_frac: -g.arg() / (2.0 * std::f64::consts::PI),
                         re: g.re,
                         im: g.im,
                         metric,
