@@ -70,6 +70,12 @@ pub struct Ends {
     pub hi: u64,
 }
 
+fn wide(entry: u16) -> u64
+    ensures { λ r. ⌜ r ≡ entry ⌝ }
+{
+    entry as u64
+}
+
 // Both are read from one copy, since a constant array is laid on the stack wherever it is named.
 fn ends_at(i: usize) -> Ends
     requires { ⌜ i < 65 ⌝ }
@@ -77,8 +83,8 @@ fn ends_at(i: usize) -> Ends
 {
     let table = arctangents::ARCTANGENTS;
     Ends {
-        lo: table[i] as u64,
-        hi: table[i + 1] as u64,
+        lo: wide(table[i]),
+        hi: wide(table[i + 1]),
     }
 }
 
