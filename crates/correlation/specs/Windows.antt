@@ -10,10 +10,11 @@ use native.Mathlib.Omega.{arith}
 use lib.Dec.{T, leb, leb→le}
 use lib.ListN.{length, getD}
 use lib.Ieee.{Float, nan, Format, binary64, ofBits, add, sub, fits}
-use lib.Ieee.Fits.{add-fits}
+use lib.Ieee.Fits.{add-fits, sub-fits}
 use Rattle.ieee.specs.Constants.{plusZero}
 use Rattle.ieee.specs.Levels.{Level, Scaled, many, roomy}
-use Rattle.ieee.specs.Sums.{total, prefixes, Each}
+use Rattle.ieee.specs.Sums.{total, total-plain, prefixes, Each, Held}
+use Rattle.ieee.specs.Zeros.{canon}
 use Rattle.lists.specs.Lists.{upTo, select}
 use Rattle.lists.specs.Select.{length-upTo, upTo-same}
 use Rattle.complex.specs.Changes.{most}
@@ -92,6 +93,22 @@ zero-fits = tt
 pub window-fits : (sums : List Float) (ng : ℕ) (from : List ℕ) → T (fits binary64 (windowSum sums ng from))
 unfolding windowSum
 window-fits sums ng from = total-fits binary64 (plusZero binary64) _ zero-fits
+
+-- it starts at +0.0, so it is never -0.0
+differences-held : {A : Type 0} (f : Format) (g h : A → Float) (xs : List A) → Held f (map (λ a. sub f (g a) (h a)) xs)
+unfolding Held
+differences-held f g h [] = tt
+differences-held f g h (x ∷ xs) = (sub-fits f (g x) (h x), differences-held f g h xs)
+
+zero-plain : canon (plusZero binary64) ≡ plusZero binary64
+unfolding ofBits
+zero-plain = refl
+
+pub window-plain : (sums : List Float) (ng : ℕ) (from : List ℕ) → canon (windowSum sums ng from) ≡ windowSum sums ng from
+unfolding windowSum
+window-plain sums ng from =
+    total-plain binary64 (plusZero binary64) _ zero-fits zero-plain
+    (differences-held binary64 (λ a. getD sums (a + ng) nan) (λ a. getD sums a nan) from)
 
 module _ (k : ℕ) (K : k ≤ most) (l : Level) (R : T (roomy binary64 most (guessLevel l))) where
   -- a guard that ends within the terms reads prefix sums that are there

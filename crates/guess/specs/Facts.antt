@@ -14,12 +14,14 @@ use lib.ListN.{length, getD}
 use lib.Ieee.{Float, binary64, lt, le}
 use Rattle.lists.specs.Refusals.{numbered}
 use Rattle.ieee.specs.Constants.{plusZero}
+use Rattle.ieee.specs.Zeros.{canon}
 use Rattle.lists.specs.Lists.{range}
 use Rattle.lists.specs.Tests.{memb, allIn, both-left, both-right}
 use Rattle.lists.specs.Select.{length-upTo, getD-upTo}
 use Rattle.samples_needed.specs.Samples.{fftOf, guardOf, symbolOf}
 use Rattle.correlation.specs.Correlation.{pairsIn, lagsIn}
-use Rattle.guess.specs.Guess.{energyAt, guessAt, beats, offered, scan, triedGuard, triedMode, guessed}
+use Rattle.correlation.specs.Windows.{window-plain}
+use Rattle.guess.specs.Guess.{correlationAt, energyAt, guessAt, beats, offered, scan, triedGuard, triedMode, guessed}
 use Rattle.guess.specs.Guess.{guessCode, guessAnswer, searchNumber}
 use Rattle.guess.specs.declared.ModeGuess.{ModeGuess}
 use Rattle.guess.specs.declared.GuardSearch.{GuardSearch}
@@ -109,6 +111,17 @@ good-offered xs mode guard b d h = by (le (energyAt xs mode guard d) (plusZero b
 
 pub found-is : (xs : List Float) (modes guards : List ℕ) (g : ModeGuess) → guessed xs modes guards ≡ Found g → FoundIs xs g
 found-is xs modes guards g e = subst (Good xs) e (search-keeps (Good xs) any xs (λ mode guard m. good-offered xs mode guard) modes guards (all-true modes) tt)
+
+-- neither part of what is found is -0.0
+pub found-plain : (xs : List Float) (modes guards : List ℕ) (g : ModeGuess) → guessed xs modes guards ≡ Found g
+    → (canon (g .re) ≡ g .re) × (canon (g .im) ≡ g .im)
+unfolding guessAt correlationAt
+found-plain xs modes guards g e =
+    let at = found-is xs modes guards g e .guess in
+    subst (λ (g : ModeGuess). (canon (g .re) ≡ g .re) × (canon (g .im) ≡ g .im)) (sym at) (plain (g .mode) (g .guard) (g .offset))
+  where
+    plain : (mode guard d : ℕ) → let g = guessAt xs mode guard d in (canon (g .re) ≡ g .re) × (canon (g .im) ≡ g .im)
+    plain mode guard d = (window-plain _ _ _, window-plain _ _ _)
 
 -- ---- an answer's number is the number that refuses the call, and 0 where nothing does
 -- a search never ends refused
