@@ -1,0 +1,37 @@
+// The stored calls of the grid, made and compared: what the C library's function returns, and every
+// entry that was lent to be written. A new operation has a function here and a line in `check_call`.
+ghost use Prim.Native.Nat.{_≤_};
+use replay::check_floats;
+use replay_head::Call;
+use replay_head::answered;
+use replay_head::broken;
+use replay_head::lent_floats;
+use tally::Tally;
+
+fn estimate_grid(call: Call, kinds: &[u8], spectra: &[f32]) -> Tally
+    requires { ⌜ call .lent ≤ 32259 ⌝ }
+{
+    let lent = call.lent;
+    let mut room = lent_floats();
+    let grid: &mut [f32] = &mut room[0..lent];
+    let code = host::sillurwy_estimate_grid(
+        call.mode,
+        call.choice,
+        kinds,
+        spectra,
+        call.third,
+        call.fourth,
+        grid,
+    );
+    check_floats(grid, answered(code, call))
+}
+
+// Makes the call of an operation's number.
+pub fn check_call(operation: u8, call: Call, kinds: &[u8], spectra: &[f32]) -> Tally
+    requires { ⌜ call .lent ≤ 32259 ⌝ }
+{
+    match operation {
+        12 => estimate_grid(call, kinds, spectra),
+        _ => broken(),
+    }
+}
