@@ -14,6 +14,7 @@ use replay::check_words;
 use replay_head::Call;
 use replay_head::answered;
 use replay_head::broken;
+use replay_head::call_of;
 use replay_head::lent_doubles;
 use replay_head::lent_floats;
 use tally::Tally;
@@ -159,16 +160,13 @@ fn bin_ratio(call: Call, pairs: &[f32]) -> Tally {
     check_float(ratio, answered(code, call))
 }
 
-// Makes the call of an operation's number.
-pub fn check_call(
-    operation: u8,
-    call: Call,
-    bytes: &[u8],
-    more_bytes: &[u8],
-    floats: &[f32],
-) -> Tally
-    requires { ⌜ call .lent ≤ 32259 ⌝ }
-{
+// Makes the call that a head asks for, if there is room for what it lends.
+pub fn check_call(head: &[u8; 22], bytes: &[u8], more_bytes: &[u8], floats: &[f32]) -> Tally {
+    let call = call_of(head);
+    if 32259 < call.lent {
+        return broken();
+    }
+    let operation = head[0];
     match operation {
         6 => samples_needed(call, bytes, more_bytes),
         7 => detect_mode(call, floats, bytes, more_bytes),

@@ -8,9 +8,7 @@
 ghost use mathlib.Core.Path.{_≡_};
 ghost use lib.ListN.{length};
 use replay::Longs;
-use replay_head::Call;
 use replay_head::broken;
-use replay_head::call_of;
 use replay_head::size_at;
 use tally::Tally;
 
@@ -30,34 +28,19 @@ fn float_room() -> [f32; 22468]
     [0.0; 22468]
 }
 
-// Hands the call to the part of its number. There is room for so many entries to be lent.
-fn check_part(operation: u8, call: Call, bytes: &[u8], more_bytes: &[u8], floats: &[f32]) -> Tally {
-    if 32259 < call.lent {
-        return broken();
-    }
-    match operation {
-        1..=5 | 19 => replay_layout::check_call(operation, call, bytes),
-        6..=11 | 17..=18 => replay_acquisition::check_call(
-            operation,
-            call,
-            bytes,
-            more_bytes,
-            floats,
-        ),
-        12 => replay_grid::check_call(operation, call, bytes, floats),
-        _ => broken(),
-    }
-}
-
-// Behind the lists stand the wide numbers, which only the functions of floats have.
-fn check_longs(head: &[u8; 22], bytes: &[u8], more_bytes: &[u8], floats: &[f32]) -> Tally {
+// Behind the lists stand the wide numbers, which only the functions of floats have. Then the record is
+// handed to the part that the operation's number belongs to.
+fn check_part(head: &[u8; 22], bytes: &[u8], more_bytes: &[u8], floats: &[f32]) -> Tally {
     let Longs::Numbers(a, b) = replay::read_longs(short_size(head[21])) else {
         return broken();
     };
     let operation = head[0];
     match operation {
+        1..=5 | 19 => replay_layout::check_call(head, bytes),
+        6..=11 | 17..=18 => replay_acquisition::check_call(head, bytes, more_bytes, floats),
+        12 => replay_grid::check_call(head, bytes, floats),
         13..=16 => replay_floats::check_call(head, floats, a, b),
-        _ => check_part(operation, call_of(head), bytes, more_bytes, floats),
+        _ => broken(),
     }
 }
 
@@ -72,7 +55,7 @@ fn check_floats_behind(head: &[u8; 22], bytes: &[u8], more_bytes: &[u8]) -> Tall
     if !replay::read_floats(&mut floats, head[20], n) {
         return broken();
     }
-    check_longs(head, bytes, more_bytes, &floats[0..n])
+    check_part(head, bytes, more_bytes, &floats[0..n])
 }
 
 fn check_bytes_behind(head: &[u8; 22], bytes: &[u8]) -> Tally {

@@ -5,6 +5,7 @@ use replay::check_floats;
 use replay_head::Call;
 use replay_head::answered;
 use replay_head::broken;
+use replay_head::call_of;
 use replay_head::lent_floats;
 use tally::Tally;
 
@@ -26,10 +27,13 @@ fn estimate_grid(call: Call, kinds: &[u8], spectra: &[f32]) -> Tally
     check_floats(grid, answered(code, call))
 }
 
-// Makes the call of an operation's number.
-pub fn check_call(operation: u8, call: Call, kinds: &[u8], spectra: &[f32]) -> Tally
-    requires { ⌜ call .lent ≤ 32259 ⌝ }
-{
+// Makes the call that a head asks for, if there is room for what it lends.
+pub fn check_call(head: &[u8; 22], kinds: &[u8], spectra: &[f32]) -> Tally {
+    let call = call_of(head);
+    if 32259 < call.lent {
+        return broken();
+    }
+    let operation = head[0];
     match operation {
         12 => estimate_grid(call, kinds, spectra),
         _ => broken(),

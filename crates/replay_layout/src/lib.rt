@@ -8,6 +8,7 @@ use replay::check_words;
 use replay_head::Call;
 use replay_head::answered;
 use replay_head::broken;
+use replay_head::call_of;
 use replay_head::lent_bytes;
 use replay_head::lent_words;
 use tally::Tally;
@@ -65,10 +66,13 @@ fn carrier_role(call: Call, kinds: &[u8]) -> Tally {
     check_byte(role, answered(code, call))
 }
 
-// Makes the call of an operation's number.
-pub fn check_call(operation: u8, call: Call, kinds: &[u8]) -> Tally
-    requires { ⌜ call .lent ≤ 32259 ⌝ }
-{
+// Makes the call that a head asks for, if there is room for what it lends.
+pub fn check_call(head: &[u8; 22], kinds: &[u8]) -> Tally {
+    let call = call_of(head);
+    if 32259 < call.lent {
+        return broken();
+    }
+    let operation = head[0];
     match operation {
         1 => carrier_bin(call),
         2 => role_map(call, kinds),
