@@ -39,7 +39,16 @@ fn defined() -> BTreeSet<String> {
     names
 }
 
-/// What a function has, where, and what is found there; the last may be one of several.
+/// The part of the requirement that a function belongs to, as its comparison says.
+fn part_of(name: &str) -> String {
+    let text = text_at(&format!("oracle/src/ops/{name}.rs"));
+    let part = text.split("part: \"").nth(1);
+    let part = part.and_then(|rest| rest.split('"').next());
+    part.unwrap_or("PART").to_string()
+}
+
+/// What a function has, where, and what is found there; the last may be one of several. PART stands for
+/// the part that the function belongs to.
 const PLACES: [(&str, &str, &str); 13] = [
     ("a wrapper", "host/src", "ffi::NAME("),
     ("a line of the modules", "host/src/lib.rs", "::NAME)"),
@@ -59,7 +68,7 @@ const PLACES: [(&str, &str, &str); 13] = [
         "oracle/tests/mistakes/main.rs",
         "\nmod NAME;",
     ),
-    ("a line", "crates/replay_calls/src/lib.rt", "sillurwy_NAME("),
+    ("a line", "crates/replay_PART/src/lib.rt", "sillurwy_NAME("),
     ("a word", "README.md", "`sillurwy_NAME`"),
     ("its stored calls", "oracle/README.md", "`NAME`"),
 ];
@@ -70,6 +79,7 @@ fn every_function_has_its_places() {
     for name in defined() {
         for (what, place, patterns) in PLACES {
             let place = place.replace("NAME", &name);
+            let place = place.replace("PART", &part_of(&name));
             let (text, patterns) = (text_at(&place), patterns.replace("NAME", &name));
             if !patterns.split(" or ").any(|one| text.contains(one)) {
                 missing.push(format!("sillurwy_{name} has not {what} in {place}"));

@@ -1,10 +1,10 @@
-// Reads the rest of a stored record and hands its call to the part of the requirement that the
-// operation's number belongs to, which makes the call and compares what comes of it (oracle/README.md,
-// "The stored answers", has the form). The program that reads record after record stands apart: a new
-// operation does not touch it.
+// Reads the rest of a stored record (oracle/README.md, "The stored answers", has the form) and hands it
+// to the part of the requirement that the operation's number belongs to: `replay_layout` and the others
+// make the call and compare what comes of it. The program that reads record after record stands apart:
+// a new operation does not touch it.
 //
-// A new operation stands in the crate of its part. Here its number is in `check_part`, or in
-// `check_longs` if it is a function of floats, and `OPERATIONS` counts it.
+// A new operation stands in the crate of its part. Here `check_part` has its number, and `OPERATIONS`
+// counts it.
 ghost use mathlib.Core.Path.{_≡_};
 ghost use lib.ListN.{length};
 use replay::Longs;
@@ -28,8 +28,8 @@ fn float_room() -> [f32; 22468]
     [0.0; 22468]
 }
 
-// Behind the lists stand the wide numbers, which only the functions of floats have. Then the record is
-// handed to the part that the operation's number belongs to.
+// Behind the lists stand the wide numbers, which only the functions of floats have. What was read goes
+// to the part of the operation's number.
 fn check_part(head: &[u8; 22], bytes: &[u8], more_bytes: &[u8], floats: &[f32]) -> Tally {
     let Longs::Numbers(a, b) = replay::read_longs(short_size(head[21])) else {
         return broken();

@@ -1,11 +1,10 @@
-// The stored calls of the functions of floats, made and compared. A new one has a function here and a
-// line in `check_value`.
+// The stored calls of the functions of floats, made and compared. Each hands back its value in place of
+// something lent, and refuses nothing: the code that is stored is 0. A new one has a function here and a
+// line in `check_value`, and its number in `replay_calls`.
 use replay::check_double;
 use replay::check_float;
 use tally::Tally;
 
-// A function of floats hands back its value in place of something lent, and refuses nothing: the code
-// that is stored is 0.
 fn root(a: f64, tally: Tally) -> Tally {
     check_double(host::sillurwy_root(a), tally)
 }
@@ -25,7 +24,7 @@ fn norm64(a: f64, b: f64, tally: Tally) -> Tally {
     check_double(host::sillurwy_norm64(a, b), tally)
 }
 
-// Calls it by its number: a and b are the wide numbers.
+// Makes the call of a number: a and b are the wide numbers.
 fn check_value(operation: u8, floats: &[f32], a: f64, b: f64, tally: Tally) -> Tally {
     match operation {
         13 => root(a, tally),
@@ -36,7 +35,7 @@ fn check_value(operation: u8, floats: &[f32], a: f64, b: f64, tally: Tally) -> T
     }
 }
 
-// Makes the call of a function of floats, of which the head has the number and the code.
+// Makes the call that a head asks for; a and b are the bits of the wide numbers.
 pub fn check_call(head: &[u8; 22], floats: &[f32], a: u64, b: u64) -> Tally {
     let tally = Tally::new().expect(head[1] == 0);
     check_value(

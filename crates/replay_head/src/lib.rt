@@ -1,5 +1,5 @@
-// The head of a stored record: the call that it asks for, and room for what that call is lent. This is
-// what the parts of the replayer share (oracle/README.md, "The stored answers", has the form).
+// The head of a stored record (oracle/README.md, "The stored answers", has the form): the call that it
+// asks for, and room for what that call is lent. The parts of the replayer share this.
 ghost use Prim.Native.Nat.{_<_};
 ghost use mathlib.Core.Path.{_≡_};
 ghost use lib.ListN.{length};
