@@ -3,6 +3,7 @@
 // line in `check_value`, and its number in `replay_calls`.
 use replay::check_double;
 use replay::check_float;
+use replay::check_signed;
 use tally::Tally;
 
 fn root(a: f64, tally: Tally) -> Tally {
@@ -24,6 +25,18 @@ fn norm64(a: f64, b: f64, tally: Tally) -> Tally {
     check_double(host::sillurwy_norm64(a, b), tally)
 }
 
+fn wide(number: i32) -> i64 {
+    number as i64
+}
+
+fn angle(a: f64, b: f64, tally: Tally) -> Tally {
+    check_signed(wide(host::sillurwy_angle(a, b)), tally)
+}
+
+fn cfo_frac(a: f64, b: f64, tally: Tally) -> Tally {
+    check_double(host::sillurwy_cfo_frac(a, b), tally)
+}
+
 // Makes the call of a number: a and b are the wide numbers.
 fn check_value(operation: u8, floats: &[f32], a: f64, b: f64, tally: Tally) -> Tally {
     match operation {
@@ -31,6 +44,8 @@ fn check_value(operation: u8, floats: &[f32], a: f64, b: f64, tally: Tally) -> T
         14 => narrow(a, tally),
         15 => norm32(floats, tally),
         16 => norm64(a, b, tally),
+        20 => angle(a, b, tally),
+        21 => cfo_frac(a, b, tally),
         _ => tally.ended(),
     }
 }
