@@ -205,7 +205,8 @@ module _ (negates : Bool) (c : Change) (modes guards : List ℕ) (room : ℕ) (x
 
   -- what is made of an answer, where it is the same of what an accepted call found
   by-search : {B : Type 0} (f g : GuardSearch → B) → ((k : ℕ) → f (search.Refused k) ≡ g (search.Refused k))
-      → (searchCode xs ≡ 0 → f (guessed ys modes guards) ≡ g (guessed xs modes guards)) → f (guessAnswer ys modes guards room) ≡ g (guessAnswer xs modes guards room)
+      → (searchCode xs ≡ 0 → f (guessed ys modes guards) ≡ g (guessed xs modes guards))
+      → f (guessAnswer ys modes guards room) ≡ g (guessAnswer xs modes guards room)
   unfolding guessAnswer
   by-search f g refused found =
       ap (λ (k : ℕ). f (cond (eqb k 0) (guessed ys modes guards) (search.Refused k))) search-code

@@ -101,7 +101,7 @@ around-mirror s t a b = go (eqb (a + b) 0)
     other false h l = refl
     other true h l = omega arith
 
-    go : (z : Bool) → cond z 0 (mirror (not t) 65536 (mirror s 32768 (quarter a b))) ≡ (65536 - cond z 0 (mirror t 65536 (mirror s 32768 (quarter a b)))) % 65536
+    go : (z : Bool) → let h = mirror s 32768 (quarter a b) in cond z 0 (mirror (not t) 65536 h) ≡ (65536 - cond z 0 (mirror t 65536 h)) % 65536
     go true = refl
     go false = other t (mirror s 32768 (quarter a b)) (half-most s (quarter a b) (quarter-most a b))
 
@@ -123,38 +123,39 @@ around-scale s a t b c C =
     ∙ rw (zero-scale (a + b) c C, leb-scale b a c C, slope-scale a b c C, slope-scale b a c C)
 
 -- ---- axes and diagonals
+quarter-real : (a : ℕ) → quarter a 0 ≡ 0
+quarter-real a = quarter-low a 0 (omega arith) ∙ ap octant (zero-div a) ∙ octant-zero
+
+quarter-imaginary : (b : ℕ) → 0 < b → quarter 0 b ≡ 16384
+quarter-imaginary b h = quarter-high 0 b h ∙ ap (λ (q : ℕ). 16384 - octant q) (zero-div b) ∙ ap (λ (q : ℕ). 16384 - q) octant-zero
+
+-- the four pairs of signs
+module _ (P : Bool → Bool → Type 0) (pp : P false false) (pm : P false true) (mp : P true false) (mm : P true true) where
+  all-signs : (s t : Bool) → P s t
+  all-signs false false = pp
+  all-signs false true = pm
+  all-signs true false = mp
+  all-signs true true = mm
+
+-- an angle of the quarter, mirrored by both signs
+mirrored-at : (s t : Bool) (a b q c : ℕ) → 0 < a + b → quarter a b ≡ q → mirror t 65536 (mirror s 32768 q) ≡ c → around s a t b ≡ c
+mirrored-at s t a b q c h e m = around-some s a t b h ∙ ap (λ (q : ℕ). mirror t 65536 (mirror s 32768 q)) e ∙ m
+
 module _ (s t : Bool) (a : ℕ) (h : 0 < a) where
   pub around-real : around s a t 0 ≡ cond s 32768 0
   around-real =
-      around-some s a t 0 (omega arith)
-      ∙ ap (λ (q : ℕ). mirror t 65536 (mirror s 32768 q)) (quarter-low a 0 (omega arith) ∙ ap octant (zero-div a) ∙ octant-zero) ∙ by s t
-    where
-      by : (s t : Bool) → mirror t 65536 (mirror s 32768 0) ≡ cond s 32768 0
-      by true true = refl
-      by true false = refl
-      by false true = refl
-      by false false = refl
+      mirrored-at s t a 0 0 (cond s 32768 0) (omega arith) (quarter-real a)
+      (all-signs (λ s t. mirror t 65536 (mirror s 32768 0) ≡ cond s 32768 0) refl refl refl refl s t)
 
   pub around-imaginary : around s 0 t a ≡ cond t 49152 16384
   around-imaginary =
-      around-some s 0 t a (omega arith)
-      ∙ ap (λ (q : ℕ). mirror t 65536 (mirror s 32768 q)) (quarter-high 0 a h ∙ ap (λ (q : ℕ). 16384 - octant q) (zero-div a) ∙ ap (λ (q : ℕ). 16384 - q) octant-zero)
-      ∙ by s t
-    where
-      by : (s t : Bool) → mirror t 65536 (mirror s 32768 16384) ≡ cond t 49152 16384
-      by true true = refl
-      by true false = refl
-      by false true = refl
-      by false false = refl
+      mirrored-at s t 0 a 16384 (cond t 49152 16384) (omega arith) (quarter-imaginary a h)
+      (all-signs (λ s t. mirror t 65536 (mirror s 32768 16384) ≡ cond t 49152 16384) refl refl refl refl s t)
 
   pub around-diagonal : around s a t a ≡ cond t (cond s 40960 57344) (cond s 24576 8192)
-  around-diagonal = around-some s a t a (omega arith) ∙ ap (λ (q : ℕ). mirror t 65536 (mirror s 32768 q)) (quarter-same a h) ∙ by s t
-    where
-      by : (s t : Bool) → mirror t 65536 (mirror s 32768 8192) ≡ cond t (cond s 40960 57344) (cond s 24576 8192)
-      by true true = refl
-      by true false = refl
-      by false true = refl
-      by false false = refl
+  around-diagonal =
+      mirrored-at s t a a 8192 (cond t (cond s 40960 57344) (cond s 24576 8192)) (omega arith) (quarter-same a h)
+      (all-signs (λ s t. mirror t 65536 (mirror s 32768 8192) ≡ cond t (cond s 40960 57344) (cond s 24576 8192)) refl refl refl refl s t)
 
 -- ---- the signed count
 pub signed-near : (c : ℕ) → c ≤ 32768 → signed c ≡ pos c

@@ -157,7 +157,8 @@ module _ (s t : Bool) (m : ℕ) (e d : ℤ) (h : 0 < m) where
   unfolding angleOf circleOf
   diagonal = ap signed (around-diagonal s t (sizeBeside e m e) (size-pos e e m h)) ∙ by s t
     where
-      by : (s t : Bool) → signed (cond t (cond s 40960 57344) (cond s 24576 8192)) ≡ cond t (cond s (negsuc 24575) (negsuc 8191)) (cond s (pos 24576) (pos 8192))
+      by : (s t : Bool)
+          → signed (cond t (cond s 40960 57344) (cond s 24576 8192)) ≡ cond t (cond s (negsuc 24575) (negsuc 8191)) (cond s (pos 24576) (pos 8192))
       by true true = refl
       by true false = refl
       by false true = refl

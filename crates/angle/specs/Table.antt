@@ -67,24 +67,22 @@ entry-ascends i j h = entries-ascend 32768 0 arctangents (table-rule .ascending)
 abbrev pub mixed : ℕ → ℕ → ℕ → ℕ
 mixed lo hi f = lo * (65536 - f) + hi * f
 
-pub mixed-most : (lo hi f top : ℕ) → lo ≤ top → hi ≤ top → f ≤ 65536 → mixed lo hi f ≤ top * 65536
-mixed-most lo hi f top l h F =
-    let p = mul-le-mul-right (65536 - f) l in
-    let q = mul-le-mul-right f h in
-    let e : top * (65536 - f) + top * f ≡ top * 65536 = sym (mul-add top (65536 - f) f) ∙ ap (λ (z : ℕ). top * z) (whole f F) in
-    omega arith
+mixed-same : (x f : ℕ) → f ≤ 65536 → mixed x x f ≡ x * 65536
+mixed-same x f F = sym (mul-add x (65536 - f) f) ∙ ap (λ (z : ℕ). x * z) (whole f F)
   where
     whole : (f : ℕ) → f ≤ 65536 → 65536 - f + f ≡ 65536
     whole f F = omega arith
 
+pub mixed-most : (lo hi f top : ℕ) → lo ≤ top → hi ≤ top → f ≤ 65536 → mixed lo hi f ≤ top * 65536
+mixed-most lo hi f top l h F =
+    let p = mul-le-mul-right (65536 - f) l in
+    let q = mul-le-mul-right f h in
+    omega (arith, mixed-same top f F)
+
 pub mixed-least : (lo hi f : ℕ) → lo ≤ hi → f ≤ 65536 → lo * 65536 ≤ mixed lo hi f
 mixed-least lo hi f h F =
     let q = mul-le-mul-right f h in
-    let e : lo * (65536 - f) + lo * f ≡ lo * 65536 = sym (mul-add lo (65536 - f) f) ∙ ap (λ (z : ℕ). lo * z) (whole f F) in
-    omega arith
-  where
-    whole : (f : ℕ) → f ≤ 65536 → 65536 - f + f ≡ 65536
-    whole f F = omega arith
+    omega (arith, mixed-same lo f F)
 
 -- the angle of a slope before it is rounded
 abbrev at : ℕ → ℕ
@@ -133,7 +131,8 @@ octant-ascends q r h = rounded (at q) (at r) (by (split (q / 65536) (r / 65536))
     by (inl l) =
         let i = q / 65536 in
         let j = r / 65536 in
-        le-trans (mixed-most (entryAt i) (entryAt (i + 1)) (q % 65536) (entryAt (i + 1)) (entry-ascends i (i + 1) (omega arith)) (le-refl (entryAt (i + 1))) (omega arith))
+        let next = entryAt (i + 1) in
+        le-trans (mixed-most (entryAt i) next (q % 65536) next (entry-ascends i (i + 1) (omega arith)) (le-refl next) (omega arith))
         (le-trans (mul-le-mul-right 65536 (entry-ascends (i + 1) j (omega arith)))
         (mixed-least (entryAt j) (entryAt (j + 1)) (r % 65536) (entry-ascends j (j + 1) (omega arith)) (omega arith)))
     by (inr l) =

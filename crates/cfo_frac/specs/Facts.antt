@@ -3,7 +3,7 @@
 -- Assumes nothing.
 use mathlib.Core.Bool.{Bool, true, false}
 use mathlib.Core.Path.{_≡_, refl, sym, ap, _∙_, subst}
-use Prim.Native.Nat.{ℕ, zero, suc, _*_, _^_, _≤_}
+use Prim.Native.Nat.{ℕ, zero, suc, _*_, _^_, _≤_, _<_}
 use native.Mathlib.Nat.{mul-one, mul-assoc, lt-of-le-of-lt, mul-le-mul-right}
 use native.Mathlib.Omega.{arith}
 use lib.Dec.{lit<, lit≤}
@@ -28,10 +28,13 @@ aboveZero (negsuc n) = false
 quotient : (s : Bool) (n : ℕ) (x : Float) → n ≤ 32768 → HasValue x s n 1 → HasValue (div binary64 x (ofInt binary64 (pos 65536))) s n 65536
 unfolding ofInt
 quotient s n x h v =
-    let turn = round-whole binary64 false 65536 (lit≤ tt) in
-    subst (λ (z : Float). HasValue z s n 65536) (sym (div-value binary64 x (round binary64 false 65536 1) s false n 1 65536 1 (lit< tt) (lit< tt) (lit< tt) v turn
-    ∙ (λ i. round binary64 (plain s i) (mul-one n i) 65536)))
-    (round-exact binary64 s n 65536 n 1058 (lit< tt) (omega arith) (lt-of-le-of-lt (mul-le-mul-right (2 ^ 1058) h) (lit< tt)) (sym (mul-assoc n (2 ^ 1058) 65536)))
+    let turn = round binary64 false 65536 1 in
+    let is : div binary64 x turn ≡ round binary64 s n 65536 =
+    div-value binary64 x turn s false n 1 65536 1 (lit< tt) (lit< tt) (lit< tt) v (round-whole binary64 false 65536 (lit≤ tt))
+    ∙ (λ i. round binary64 (plain s i) (mul-one n i) 65536) in
+    let few : n * 2 ^ 1058 < 2 ^ 2098 = lt-of-le-of-lt (mul-le-mul-right (2 ^ 1058) h) (lit< tt) in
+    subst (λ (z : Float). HasValue z s n 65536) (sym is)
+    (round-exact binary64 s n 65536 n 1058 (lit< tt) (omega arith) few (sym (mul-assoc n (2 ^ 1058) 65536)))
   where
     plain : (s : Bool) → unlike s false ≡ s
     plain true = refl
