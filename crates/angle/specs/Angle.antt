@@ -11,11 +11,11 @@ use Rattle.angle.specs.Arctangents.{entryAt}
 
 -- ---- of whole numbers: a pair (±a, ±b) in any unit
 
--- b / a in 2 ^ -22, cut
+-- b / a in 2 ^ -22, cut: 4194304 is 2 ^ 22
 abbrev pub slope : ℕ → ℕ → ℕ
 slope a b = b * 4194304 / a
 
--- from lo to hi, f / 65536 of the way; both are quarters of a unit, and it is rounded to units
+-- from lo to hi, f / 65536 of the way; both are quarters of a unit, and it is rounded to units: 262144 is 4 * 65536
 abbrev pub between : ℕ → ℕ → ℕ → ℕ
 between lo hi f = (lo * (65536 - f) + hi * f + 131072) / 262144
 
