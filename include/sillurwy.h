@@ -170,8 +170,8 @@ uint8_t sillurwy_samples_needed(const uint8_t *modes, size_t modes_len, const ui
  *   mode, guard    codes
  *   offset         the sample at which a guard interval starts
  *   metric         normalised correlation
- *   re, im         both parts of the summed correlation: sillurwy_cfo_frac has the fractional offset
- *                  that they tell
+ *   re, im         both parts of the summed correlation: sillurwy_cfo_frac has the fractional carrier
+ *                  offset that they tell
  * Refused: 1 a bad mode in the list; 9 a bad guard; 5 an odd samples_len, or too many samples;
  * 7 too short a scratch. */
 uint8_t sillurwy_detect_mode(const float *samples, size_t samples_len, const uint8_t *modes,
@@ -293,10 +293,9 @@ float sillurwy_norm32(float re, float im);
 double sillurwy_norm64(double re, double im);
 
 /* The angle of a pair of doubles in 1/65536 of a turn: above -32768 and at most 32768, half a turn.
- * It is worked out with whole numbers and a fixed table, which docs/ANGLE.md describes. In all runs
- * it was at most one unit from the true angle; on axes and diagonals it is exact. An infinity or a
- * NaN in either part gives 0, and so do two zeros; the sign of a zero does not matter. For every
- * other pair:
+ * It is worked out with whole numbers and a fixed table, and less than one unit from the true angle:
+ * docs/ANGLE.md has how and why. On axes and diagonals it is exact. An infinity or a NaN in either
+ * part gives 0, and so do two zeros; the sign of a zero does not matter. For every other pair:
  *   - a quarter turn, which makes (-im, re) of (re, im), adds 16384 round the circle;
  *   - a change of the sign of im changes the sign of the angle, except that 32768 stays;
  *   - a power of two by which both parts are multiplied, where that is exact, leaves the angle. */
@@ -309,7 +308,8 @@ int32_t sillurwy_angle(double re, double im);
  * +0.0, and so do two zeros, an infinity or a NaN; angle 32768 gives -0.5.
  * The correlation sums products of sample x[i] and the conjugate of x[i + n]. A positive offset is
  * one in which carriers sit above their bins: all frequencies are too high by that much of a carrier
- * spacing. To take it off, multiply sample i by exp(-2 pi j cfo_frac i / n).
+ * spacing. To take it off, multiply sample i by exp(-2 pi j cfo_frac i / n), where j is the imaginary
+ * unit and n is SILLURWY_FFT_SIZE of the guess's mode.
  * This is the fraction alone. Whole carrier spacings are the shift that sillurwy_integer_cfo gives
  * for spectra of samples from which the fraction was taken off, and the two add up. */
 double sillurwy_cfo_frac(double re, double im);

@@ -19,11 +19,11 @@ impl Angle {
     }
 }
 
-/// The angle of a pair of `f64`, worked out with whole numbers and a fixed table, which docs/ANGLE.md
-/// describes.
+/// The angle of a pair of `f64`, worked out with whole numbers and a fixed table.
 ///
-/// In all runs it was at most one unit from the true angle; on axes and diagonals it is exact. An
-/// infinity or a NaN in either part gives 0, and so do two zeros; the sign of a zero does not matter.
+/// It is less than one unit from the true angle: docs/ANGLE.md has how and why. On axes and diagonals
+/// it is exact. An infinity or a NaN in either part gives 0, and so do two zeros; the sign of a zero
+/// does not matter.
 ///
 /// ```
 /// use sillurwy::angle::{angle, Angle};

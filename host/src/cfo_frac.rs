@@ -2,7 +2,7 @@
 
 use crate::ffi;
 
-/// The fractional offset that both parts of a guess's summed correlation tell, in carrier spacings,
+/// The fractional carrier offset that both parts of a guess's summed correlation tell, in carrier spacings,
 /// each of which is a turn in n samples: from -0.5 up to, not including, 0.5.
 /// [`ModeGuess::cfo_frac`](crate::guess::ModeGuess::cfo_frac) has that of a guess, and what its sign
 /// means.

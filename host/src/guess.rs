@@ -10,7 +10,7 @@ pub const MOST_SAMPLES: usize = 1 << 20;
 /// The most symbols of [`samples_needed`].
 pub const MOST_SYMBOLS: usize = 64;
 
-/// A guess. Its correlation tells the fractional offset: [`cfo_frac`](ModeGuess::cfo_frac).
+/// A guess. Its correlation tells the fractional carrier offset: [`cfo_frac`](ModeGuess::cfo_frac).
 #[derive(Debug, Clone, Copy, PartialEq)]
 pub struct ModeGuess {
     /// Mode.
@@ -28,12 +28,13 @@ pub struct ModeGuess {
 }
 
 impl ModeGuess {
-    /// The fractional offset that the summed correlation tells, in carrier spacings: from -0.5 up to,
-    /// not including, 0.5.
+    /// The fractional carrier offset that the summed correlation tells, in carrier spacings: from -0.5
+    /// up to, not including, 0.5.
     ///
     /// The correlation sums products of sample x\[i\] and the conjugate of x\[i + n\]. A positive
     /// offset is one in which carriers sit above their bins: all frequencies are too high by that much
-    /// of a carrier spacing. To take it off, sample i is multiplied by exp(-2πj · cfo_frac · i / n).
+    /// of a carrier spacing. To take it off, sample i is multiplied by exp(-2πj · cfo_frac · i / n), where
+    /// j is the imaginary unit and n the `fft_size` of `mode`.
     ///
     /// This is the fraction alone. Whole carrier spacings are the shift that
     /// [`integer_cfo`](crate::shift::integer_cfo) gives for spectra of samples from which the fraction

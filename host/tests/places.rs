@@ -111,15 +111,20 @@ fn every_constant_of_the_header_has_its_line() {
     );
 }
 
-/// A directory that has copies of the three files, and in one of them one text for another.
+/// A directory that has copies of some files, and in one of them one text for another.
 struct Copies {
     root: PathBuf,
 }
 
 impl Copies {
+    /// Copies of what `dev/declare` reads and writes.
     fn with(case: &str, changed: &str, from: &str, to: &str) -> Copies {
+        Copies::of(&[DEFINED, HEADER, FFI], case, changed, from, to)
+    }
+
+    fn of(files: &[&str], case: &str, changed: &str, from: &str, to: &str) -> Copies {
         let root = Path::new(env!("CARGO_TARGET_TMPDIR")).join(case);
-        for file in [DEFINED, HEADER, FFI] {
+        for &file in files {
             let mut text = read(file);
             if file == changed {
                 assert!(text.contains(from), "{file} has no {from}");
@@ -132,10 +137,14 @@ impl Copies {
         Copies { root }
     }
 
-    fn declare(&self, words: &[&str]) -> Output {
-        let mut command = Command::new(path("dev/declare"));
+    fn run(&self, script: &str, words: &[&str]) -> Output {
+        let mut command = Command::new(path(script));
         command.args(words).env("SILLURWY_ROOT", &self.root);
-        command.output().expect("dev/declare runs")
+        command.output().unwrap_or_else(|_| panic!("{script} runs"))
+    }
+
+    fn declare(&self, words: &[&str]) -> Output {
+        self.run("dev/declare", words)
     }
 
     fn texts(&self) -> [String; 3] {
@@ -192,6 +201,30 @@ fn a_declaration_that_differs_is_seen_and_written_again() {
     }
     let to = "sillurwy_root(x: f64, y: &mut [u8])";
     must_see("argument", DEFINED, "sillurwy_root(x: f64)", to, FFI);
+}
+
+#[test]
+fn an_arctangent_that_differs_is_seen_and_written_again() {
+    const SCRIPT: &str = "dev/arctangents";
+    const TABLES: [&str; 2] = [
+        "crates/angle/specs/Arctangents.antt",
+        "crates/angle/src/arctangents.rt",
+    ];
+    for (case, changed, from, to) in [
+        ("defined entry", TABLES[0], " 652 ", " 653 "),
+        ("coded entry", TABLES[1], " 652,", " 653,"),
+        ("last entry", TABLES[1], " 32768,\n];", " 32767,\n];"),
+    ] {
+        let copies = Copies::of(&TABLES, case, changed, from, to);
+        let output = copies.run(SCRIPT, &["--check"]);
+        let words = String::from_utf8_lossy(&output.stderr);
+        assert_eq!(output.status.code(), Some(1), "{case}: {words}");
+        assert!(words.contains(changed), "{case}: {words}");
+        assert!(copies.run(SCRIPT, &[]).status.success(), "{case}");
+        assert!(copies.run(SCRIPT, &["--check"]).status.success(), "{case}");
+        let text = fs::read_to_string(copies.root.join(changed)).unwrap();
+        assert_eq!(text, read(changed), "{case}");
+    }
 }
 
 #[test]

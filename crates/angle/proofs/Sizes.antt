@@ -1,6 +1,6 @@
 -- Sizes by their bits: which value the bits stand for, that larger bits are a larger size, and so the angle of two patterns.
 -- Assumes nothing.
-use mathlib.Core.Bool.{Bool, true, false, cond}
+use mathlib.Core.Bool.{Bool, true, false, not, cond, _&&_}
 use mathlib.Core.Logic.{_⊎_, inl, inr}
 use mathlib.Core.Path.{_≡_, refl, sym, ap, _∙_, subst}
 use Prim.Native.Nat.{ℕ, _+_, _-_, _*_, _/_, _%_, _^_, _≤_, _<_}
@@ -9,14 +9,14 @@ use native.Mathlib.Omega.{arith}
 use borrow.Author.Tests.{le-leb, lt-leb, eq-eqb, ne-eqb}
 use lib.Dec.{T, leb, eqb}
 use lib.Pow.{pow-pos, pow-mono}
-use lib.Ieee.{Float, nan, inf, fin, binary64, ofBits, ofFields}
+use lib.Ieee.{Float, nan, inf, binary64, ofBits, ofFields}
 use lib.Ieee.Exact.{HasValue}
 use Rattle.ieee.specs.Patterns.{low-value, mid-value}
 use Rattle.ieee.specs.Numbers.{split}
 use Rattle.angle.specs.Angle.{slope, around, circleOf, finite}
 use Rattle.angle.specs.Inner.{digits, exponent, sizeOf}
 use Rattle.angle.specs.Circle.{around-none, around-scale}
-use Rattle.angle.specs.Facts.{circle-of-values}
+use Rattle.angle.specs.Facts.{not-finite-circle, circle-of-values}
 use Rattle.angle.proofs.Numbers.{moved}
 
 -- ---- the digits
@@ -157,18 +157,14 @@ not-number x h =
     by false = refl
 
 pub re-out : (re im : Float) → finite re ≡ false → 0 ≡ circleOf re im
-unfolding circleOf
-re-out nan im h = refl
-re-out (inf s) im h = refl
-re-out (fin s m e) im h = absurd (subst T h tt)
+re-out re im h = sym (not-finite-circle re im (rw h tt))
 
 pub im-out : (re im : Float) → finite im ≡ false → 0 ≡ circleOf re im
-unfolding circleOf
-im-out nan im h = refl
-im-out (inf s) im h = refl
-im-out (fin s m e) nan h = refl
-im-out (fin s m e) (inf t) h = refl
-im-out (fin s m e) (fin t n d) h = absurd (subst T h tt)
+im-out re im h = sym (not-finite-circle re im (rw h (by (finite re))))
+  where
+    by : (b : Bool) → T (not (b && false))
+    by true = tt
+    by false = tt
 
 pub bits-circle : (x y : ℕ) → x < 18446744073709551616 → y < 18446744073709551616
     → x % 9223372036854775808 < 9218868437227405312 → y % 9223372036854775808 < 9218868437227405312

@@ -15,13 +15,13 @@ use Rattle.angle.specs.Arctangents.{entryAt}
 abbrev pub slope : ℕ → ℕ → ℕ
 slope a b = b * 4194304 / a
 
--- from lo to hi, f / 65536 of the way; both are quarters of a unit, and it is rounded to units: 262144 is 4 * 65536
-abbrev pub between : ℕ → ℕ → ℕ → ℕ
-between lo hi f = (lo * (65536 - f) + hi * f + 131072) / 262144
+-- from lo to hi, f / 65536 of the way, in 1/65536
+abbrev pub mixed : ℕ → ℕ → ℕ → ℕ
+mixed lo hi f = lo * (65536 - f) + hi * f
 
--- the angle of a slope of q / 2 ^ 22, which is at most 1: between two neighbours of the table
+-- the angle of a slope of q / 2 ^ 22, which is at most 1: between two neighbours of the table, which are quarters of a unit, and rounded to units
 unfoldable pub octant : ℕ → ℕ
-octant q = between (entryAt (q / 65536)) (entryAt (q / 65536 + 1)) (q % 65536)
+octant q = (mixed (entryAt (q / 65536)) (entryAt (q / 65536 + 1)) (q % 65536) + 131072) / 262144
 
 -- the angle of (a, b): up to the diagonal by its slope, and above it by that of (b, a), mirrored in the diagonal
 unfoldable pub quarter : ℕ → ℕ → ℕ

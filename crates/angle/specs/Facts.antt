@@ -36,7 +36,7 @@ unfolding angleOf
 angle-range p = signed-range (circleOf (p .re) (p .im)) (circle-most (p .re) (p .im))
 
 -- so nothing of it is lost in an i32
-pub angle-fits : (p : Pair) → SFits w32 (angleOf p)
+angle-fits : (p : Pair) → SFits w32 (angleOf p)
 angle-fits p = by (angleOf p) (angle-range p)
   where
     by : (z : ℤ) → AngleRange z → SFits w32 z

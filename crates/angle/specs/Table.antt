@@ -1,12 +1,12 @@
 -- The table's rule, computed once over the whole: 65 entries that ascend, from 0 to 32768, an eighth of a turn in quarters of a unit. So the angle of a
 -- slope starts at 0, never falls where the slope grows, and ends at 8192.
 -- Assumes nothing.
-use mathlib.Core.Bool.{Bool, true}
+use mathlib.Core.Bool.{true}
 use mathlib.Core.List.{List, [], _∷_}
 use mathlib.Core.Logic.{_⊎_, inl, inr}
 use mathlib.Core.Path.{_≡_, refl, sym, ap, _∙_, subst}
 use Prim.Native.Nat.{ℕ, zero, suc, _+_, _-_, _*_, _/_, _%_, _≤_, _<_}
-use native.Mathlib.Nat.{add-mul, mul-add, le-refl, le-trans, le-of-eq, le-of-suc-le-suc, mul-le-mul-left, mul-le-mul-right}
+use native.Mathlib.Nat.{mul-add, le-refl, le-trans, le-of-suc-le-suc, mul-le-mul-right}
 use native.Mathlib.Omega.{arith}
 use borrow.Author.Tests.{leb-true}
 use lib.Dec.{leb}
@@ -16,7 +16,7 @@ use Rattle.lists.specs.Select.{AscendingFrom, Ascending}
 use Rattle.lists.specs.Search.{ascends-true}
 use Rattle.ieee.specs.Numbers.{split}
 use Rattle.angle.specs.Arctangents.{arctangents, entryAt}
-use Rattle.angle.specs.Angle.{between, octant}
+use Rattle.angle.specs.Angle.{mixed, octant}
 
 pub record TableRule : Type 0 where
   pub size : length arctangents ≡ 65
@@ -60,13 +60,10 @@ module _ (top : ℕ) where
 pub entry-most : (i : ℕ) → entryAt i ≤ 32768
 entry-most i = entry-most-of 32768 arctangents (table-rule .most) i
 
-pub entry-ascends : (i j : ℕ) → i ≤ j → entryAt i ≤ entryAt j
+entry-ascends : (i j : ℕ) → i ≤ j → entryAt i ≤ entryAt j
 entry-ascends i j h = entries-ascend 32768 0 arctangents (table-rule .ascending) (table-rule .most) i j h
 
 -- ---- between two entries
-abbrev pub mixed : ℕ → ℕ → ℕ → ℕ
-mixed lo hi f = lo * (65536 - f) + hi * f
-
 mixed-same : (x f : ℕ) → f ≤ 65536 → mixed x x f ≡ x * 65536
 mixed-same x f F = sym (mul-add x (65536 - f) f) ∙ ap (λ (z : ℕ). x * z) (whole f F)
   where
@@ -79,7 +76,7 @@ mixed-most lo hi f top l h F =
     let q = mul-le-mul-right f h in
     omega (arith, mixed-same top f F)
 
-pub mixed-least : (lo hi f : ℕ) → lo ≤ hi → f ≤ 65536 → lo * 65536 ≤ mixed lo hi f
+mixed-least : (lo hi f : ℕ) → lo ≤ hi → f ≤ 65536 → lo * 65536 ≤ mixed lo hi f
 mixed-least lo hi f h F =
     let q = mul-le-mul-right f h in
     omega (arith, mixed-same lo f F)

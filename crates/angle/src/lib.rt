@@ -111,7 +111,7 @@ fn quarter_of(a: u64, b: u64) -> u64
 
 // Mirrored, where the bits of a part have a minus sign: what is left of half a turn, in the imaginary
 // axis, or of a whole turn, in the real axis.
-fn mirrored(bits: u64, turn: u64, h: u64) -> u64
+fn mirror_of(bits: u64, turn: u64, h: u64) -> u64
     requires { ⌜ h ≤ turn ⌝ }
     ensures { λ r. ⌜ r ≡ mirror (leb 9223372036854775808 bits) turn h ⌝ }
 {
@@ -136,7 +136,7 @@ fn circle_of_bits(x: u64, y: u64) -> u64
     if a + b == 0 {
         return 0;
     }
-    mirrored(y, 65536, mirrored(x, 32768, quarter_of(a, b)))
+    mirror_of(y, 65536, mirror_of(x, 32768, quarter_of(a, b)))
 }
 
 // The same of numbers. The bits of a NaN are not decided, so it is passed over first.

@@ -2,7 +2,7 @@
 -- quarter and amplified by a power of two (`Changed` and `Allowed` of spectra/specs/Changes) find the same, but for both parts of the
 -- correlation, which are multiplied by the gain twice (`louder`).
 -- Assumes nothing.
-use Prim.Native.Nat.{ℕ, zero, suc, _+_, _-_, _*_, _≤_, _<_}
+use Prim.Native.Nat.{ℕ, suc, _+_, _-_, _*_, _≤_, _<_}
 use mathlib.Core.Bool.{Bool, true, false, cond}
 use mathlib.Core.List.{List, [], _∷_}
 use mathlib.Core.Path.{_≡_, refl, sym, ap, subst, _∙_}
@@ -17,7 +17,7 @@ use Rattle.ieee.specs.Levels.{Scaled}
 use Rattle.ieee.specs.Times.{Times, zero-times, le-times}
 use Rattle.ieee.specs.Gain.{times-of, scaled-product}
 use Rattle.complex.specs.Complex.{Pair, pair, product, conjugate, squaredSize, norm64}
-use Rattle.complex.specs.Changes.{turned, negated, turnIf, gainBy, most, WholePair, amplified, Change, ofSamples}
+use Rattle.complex.specs.Changes.{negated, turnIf, gainBy, most, WholePair, amplified, Change, ofSamples}
 use Rattle.complex.specs.Turns.{changed-product, changed-size}
 use Rattle.complex.specs.Gains.{BothScaled}
 use Rattle.complex.specs.Bounds.{gain-cases, partLevel, stepLevel, energyLevel, guessLevel}
@@ -227,23 +227,23 @@ module _ {A : Type 0} (f : Pair → A) (same : (j : ℕ) (p q : Pair) → Times 
   abbrev ofParts : ModeGuess → A
   ofParts g = f (pair (g .re) (g .im))
 
-  abbrev Held : ℕ → GuardSearch → Type 0
-  Held k (Found g) = ofParts (louderGuess k g) ≡ ofParts g
-  Held k Nothing = Unit
-  Held k (Refused code) = Unit
+  abbrev PartsKept : ℕ → GuardSearch → Type 0
+  PartsKept k (Found g) = ofParts (louderGuess k g) ≡ ofParts g
+  PartsKept k Nothing = Unit
+  PartsKept k (Refused code) = Unit
 
-  held-given : (k : ℕ) (lent : A) (b : GuardSearch) → Held k b → guessGiven ofParts (louder k b) lent ≡ guessGiven ofParts b lent
-  held-given k lent (Found g) h = h
-  held-given k lent Nothing h = refl
-  held-given k lent (Refused code) h = refl
+  kept-given : (k : ℕ) (lent : A) (b : GuardSearch) → PartsKept k b → guessGiven ofParts (louder k b) lent ≡ guessGiven ofParts b lent
+  kept-given k lent (Found g) h = h
+  kept-given k lent Nothing h = refl
+  kept-given k lent (Refused code) h = refl
 
   -- what is found is the guess at an offset, whose parts in ys are those in xs times 2 ^ (2 × k)
-  held-search : (negates turns : Bool) (g : ℕ) → suc g ≤ most → (xs ys : List Float) (modes guards : List ℕ) → allIn isMode modes ≡ true
-      → pairsIn (length xs) ≤ 1048576 → Wholes 1 xs → ChangedSamples negates turns (suc g) xs ys → Held (suc g) (guessed xs modes guards)
+  kept-search : (negates turns : Bool) (g : ℕ) → suc g ≤ most → (xs ys : List Float) (modes guards : List ℕ) → allIn isMode modes ≡ true
+      → pairsIn (length xs) ≤ 1048576 → Wholes 1 xs → ChangedSamples negates turns (suc g) xs ys → PartsKept (suc g) (guessed xs modes guards)
   unfolding guessAt
-  held-search negates turns g K xs ys modes guards M N w h = search-keeps (Held (suc g)) isMode xs step modes guards M tt
+  kept-search negates turns g K xs ys modes guards M N w h = search-keeps (PartsKept (suc g)) isMode xs step modes guards M tt
     where
-      at : (mode guard d : ℕ) → isMode mode ≡ true → Held (suc g) (Found (guessAt xs mode guard d))
+      at : (mode guard d : ℕ) → isMode mode ≡ true → PartsKept (suc g) (Found (guessAt xs mode guard d))
       at mode guard d m =
           let c = gained-correlation negates turns g K xs ys N w h mode guard d m in
           let e = gained-kept negates turns g K xs ys N w h mode guard d m in
@@ -251,26 +251,26 @@ module _ {A : Type 0} (f : Pair → A) (same : (j : ℕ) (p q : Pair) → Times 
           let im = times-of (suc g) (guessLevel stepLevel) _ _ (c .im) in
           ap ofParts (sym (e .guess)) ∙ same (2 * suc g) (correlationAt xs mode guard d) (correlationAt ys mode guard d) re im
 
-      step : (mode guard : ℕ) → isMode mode ≡ true → (b : GuardSearch) (d : ℕ) → Held (suc g) b → Held (suc g) (offered xs mode guard b d)
+      step : (mode guard : ℕ) → isMode mode ≡ true → (b : GuardSearch) (d : ℕ) → PartsKept (suc g) b → PartsKept (suc g) (offered xs mode guard b d)
       step mode guard m b d H =
           let at-d = guessAt xs mode guard d in
-          cond-keeps (Held (suc g)) (le (energyAt xs mode guard d) (plusZero binary64)) b _ H
-          (cond-keeps (Held (suc g)) (beats at-d b) (Found at-d) b (at mode guard d m) H)
+          cond-keeps (PartsKept (suc g)) (le (energyAt xs mode guard d) (plusZero binary64)) b _ H
+          (cond-keeps (PartsKept (suc g)) (beats at-d b) (Found at-d) b (at mode guard d m) H)
 
-  held-as-it-is : (b : GuardSearch) → Held 0 b
-  held-as-it-is (Found g) = refl
-  held-as-it-is Nothing = tt
-  held-as-it-is (Refused code) = tt
+  as-it-is : (b : GuardSearch) → PartsKept 0 b
+  as-it-is (Found g) = refl
+  as-it-is Nothing = tt
+  as-it-is (Refused code) = tt
 
-  held : (negates turns : Bool) (gain : ℕ) (xs ys : List Float) (modes guards : List ℕ) → allIn isMode modes ≡ true → pairsIn (length xs) ≤ 1048576
-      → Allowed (sampled negates turns gain) 1 xs → ChangedSamples negates turns gain xs ys → Held gain (guessed xs modes guards)
-  held negates turns gain xs ys modes guards M N A =
-      gain-cases (λ k. ChangedSamples negates turns k xs ys → Held k (guessed xs modes guards)) gain A
-      (λ h. held-as-it-is (guessed xs modes guards)) (λ g K w h. held-search negates turns g K xs ys modes guards M N w h)
+  parts-kept : (negates turns : Bool) (gain : ℕ) (xs ys : List Float) (modes guards : List ℕ) → allIn isMode modes ≡ true → pairsIn (length xs) ≤ 1048576
+      → Allowed (sampled negates turns gain) 1 xs → ChangedSamples negates turns gain xs ys → PartsKept gain (guessed xs modes guards)
+  parts-kept negates turns gain xs ys modes guards M N A =
+      gain-cases (λ k. ChangedSamples negates turns k xs ys → PartsKept k (guessed xs modes guards)) gain A
+      (λ h. as-it-is (guessed xs modes guards)) (λ g K w h. kept-search negates turns g K xs ys modes guards M N w h)
 
   pub changed-parts : (negates : Bool) (c : Change) (xs ys : List Float) (modes guards : List ℕ) → allIn isMode modes ≡ true
       → pairsIn (length xs) ≤ 1048576 → Allowed (ofSamples negates c) 1 xs → Changed (ofSamples negates c) 1 (λ b. b) xs ys
       → (lent : A) → guessGiven ofParts (guessed ys modes guards) lent ≡ guessGiven ofParts (guessed xs modes guards) lent
   changed-parts negates c xs ys modes guards M N A h lent =
       ap (λ (b : GuardSearch). guessGiven ofParts b lent) (changed-guess negates c xs ys modes guards M N A h)
-      ∙ held-given (c .gain) lent (guessed xs modes guards) (held negates (c .turns) (c .gain) xs ys modes guards M N A h)
+      ∙ kept-given (c .gain) lent (guessed xs modes guards) (parts-kept negates (c .turns) (c .gain) xs ys modes guards M N A h)

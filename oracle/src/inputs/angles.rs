@@ -21,8 +21,8 @@ use std::sync::LazyLock;
 const TURN: f64 = 65536.0;
 /// Intervals of the angle's table.
 const INTERVALS: u64 = 64;
-/// Digits of the ratio that the angle is made from.
-const RATIO: u32 = 22;
+/// Digits of the slope that the angle is made from.
+const SLOPE: u32 = 22;
 /// Binary places of `f64`, from that of the smallest subnormal to the highest.
 const PLACES: u64 = 2098;
 
@@ -64,7 +64,7 @@ fn one_exponent(rng: &mut Rng) -> Pair<u64> {
     parts_64(rng, 0, TOP_64 - 1, 0)
 }
 
-/// Exponents up to 60 apart, in either order. From 23 on the ratio is 0.
+/// Exponents up to 60 apart, in either order. From 23 on the slope is 0.
 fn near_exponents(rng: &mut Rng) -> Pair<u64> {
     parts_64(rng, 0, TOP_64 - 1, 60)
 }
@@ -93,7 +93,7 @@ fn beside_an_axis(rng: &mut Rng) -> Pair<u64> {
 }
 
 /// Beside the diagonals: equal parts, or parts that are up to 2^33 steps apart, each number of digits
-/// of the distance as likely. 2^30 steps are about one of the ratio's last digit.
+/// of the distance as likely. 2^30 steps are about one of the slope's last digit.
 fn beside_a_diagonal(rng: &mut Rng) -> Pair<u64> {
     let exponent = draw::between(rng, 0, TOP_64 - 2);
     let one = draw::with_exponent_64(rng, exponent) & !SIGN_64;
@@ -122,8 +122,8 @@ fn halfway(rng: &mut Rng) -> Pair<u64> {
     times_power_of_two(rng, (cos * size).round(), (sin * size).round())
 }
 
-/// Parts whose ratio is a whole number over `whole`, or nearly: each of them may be a step off.
-fn ratio_over(rng: &mut Rng, whole: u64) -> Pair<u64> {
+/// Parts whose slope is a whole number over `whole`, or nearly: each of them may be a step off.
+fn slope_over(rng: &mut Rng, whole: u64) -> Pair<u64> {
     let part = draw::between(rng, 0, whole);
     let factor = draw::digits(rng, FRACTION_64 - whole.ilog2()).max(1);
     let pair = times_power_of_two(rng, (whole * factor) as f64, (part * factor) as f64);
@@ -132,14 +132,14 @@ fn ratio_over(rng: &mut Rng, whole: u64) -> Pair<u64> {
     any_octant(rng, larger, smaller)
 }
 
-/// Ratios at and beside the ends and the middles of the table's intervals.
-fn ratio_of_the_table(rng: &mut Rng) -> Pair<u64> {
-    ratio_over(rng, 2 * INTERVALS)
+/// Slopes at and beside the ends and the middles of the table's intervals.
+fn slope_of_the_table(rng: &mut Rng) -> Pair<u64> {
+    slope_over(rng, 2 * INTERVALS)
 }
 
-/// Ratios at and beside those where the ratio's last digit changes.
-fn ratio_at_a_step(rng: &mut Rng) -> Pair<u64> {
-    ratio_over(rng, 1 << RATIO)
+/// Slopes at and beside those where the slope's last digit changes.
+fn slope_at_a_step(rng: &mut Rng) -> Pair<u64> {
+    slope_over(rng, 1 << SLOPE)
 }
 
 /// A subnormal, its leading digit anywhere, beside another or beside a small normal number.
@@ -325,8 +325,8 @@ pub const ANGLE: &[Class<Pair<u64>>] = &[
     beside_a_diagonal,
     even,
     halfway,
-    ratio_of_the_table,
-    ratio_at_a_step,
+    slope_of_the_table,
+    slope_at_a_step,
     with_subnormal,
     largest,
     small_whole,
@@ -358,7 +358,7 @@ mod tests {
     }
 
     /// The smaller part of a pair over the larger.
-    fn ratio(pair: C64) -> f64 {
+    fn slope(pair: C64) -> f64 {
         let (re, im) = (pair.re.abs(), pair.im.abs());
         re.min(im) / re.max(im)
     }
@@ -400,20 +400,20 @@ mod tests {
     }
 
     #[test]
-    fn some_ratios_are_those_of_the_table() {
-        let at = |whole: f64| move |pair: C64| (ratio(pair) * whole).fract() == 0.0;
+    fn some_slopes_are_those_of_the_table() {
+        let at = |whole: f64| move |pair: C64| (slope(pair) * whole).fract() == 0.0;
         let off = |whole: f64| {
             move |pair: C64| {
-                let part = ratio(pair) * whole;
+                let part = slope(pair) * whole;
                 (part - part.round()).abs() < 1e-6
             }
         };
         let (table, step) = (128.0, 4_194_304.0);
-        assert_eq!(count(ratio_of_the_table, off(table)), DRAWS);
-        assert_eq!(count(ratio_at_a_step, off(step)), DRAWS);
+        assert_eq!(count(slope_of_the_table, off(table)), DRAWS);
+        assert_eq!(count(slope_at_a_step, off(step)), DRAWS);
         for met in [
-            count(ratio_of_the_table, at(table)),
-            count(ratio_at_a_step, at(step)),
+            count(slope_of_the_table, at(table)),
+            count(slope_at_a_step, at(step)),
         ] {
             assert!((DRAWS / 10..DRAWS / 2).contains(&met), "{met}");
         }
@@ -421,11 +421,11 @@ mod tests {
 
     #[test]
     fn axes_and_diagonals_are_met_and_missed() {
-        let on_axis = count(beside_an_axis, |pair| ratio(pair) == 0.0);
+        let on_axis = count(beside_an_axis, |pair| slope(pair) == 0.0);
         assert!((DRAWS / 5..DRAWS).contains(&on_axis), "{on_axis}");
-        let below_a_unit = |pair: C64| (1e-6..2e-3).contains(&ratio(pair));
+        let below_a_unit = |pair: C64| (1e-6..2e-3).contains(&slope(pair));
         assert!(count(beside_an_axis, below_a_unit) > DRAWS / 10);
-        let on_diagonal = count(beside_a_diagonal, |pair| ratio(pair) == 1.0);
+        let on_diagonal = count(beside_a_diagonal, |pair| slope(pair) == 1.0);
         assert!(
             (DRAWS / 100..DRAWS / 5).contains(&on_diagonal),
             "{on_diagonal}"

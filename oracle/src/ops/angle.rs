@@ -81,11 +81,11 @@ impl Exact {
 }
 
 /// The largest whole number of 2^−22 in smaller / larger: digit by digit from the highest.
-fn ratio(smaller: Exact, larger: Exact) -> u64 {
-    let add = |ratio: u64, digit: u32| {
-        let more = ratio + (1 << digit);
+fn slope(smaller: Exact, larger: Exact) -> u64 {
+    let add = |slope: u64, digit: u32| {
+        let more = slope + (1 << digit);
         let fits = larger.fits(u128::from(more), smaller);
-        if fits { more } else { ratio }
+        if fits { more } else { slope }
     };
     (0..=22).rev().fold(0, add)
 }
@@ -105,9 +105,9 @@ fn entry(i: usize) -> u64 {
 
 /// The angle up to an eighth of a turn: on a straight line between two entries of the table, and then
 /// the nearest unit, the higher one of two.
-fn octant(ratio: u64) -> i32 {
+fn octant(slope: u64) -> i32 {
     const INTERVAL: u64 = 1 << 16;
-    let (at, beyond) = ((ratio / INTERVAL) as usize, ratio % INTERVAL);
+    let (at, beyond) = ((slope / INTERVAL) as usize, slope % INTERVAL);
     let low = TABLE[at];
     let rise = TABLE.get(at + 1).map_or(0, |high| high - low);
     let unit = 4 * INTERVAL;
@@ -126,8 +126,8 @@ pub fn twin(re: f64, im: f64) -> i32 {
     }
     let (across, up) = (Exact::of(x), Exact::of(y));
     let within = match x.total_cmp(&y) {
-        Ordering::Less => TURN / 4 - octant(ratio(across, up)),
-        _ => octant(ratio(up, across)),
+        Ordering::Less => TURN / 4 - octant(slope(across, up)),
+        _ => octant(slope(up, across)),
     };
     round_the_circle(quarters * (TURN / 4) + within)
 }
@@ -311,21 +311,39 @@ mod tests {
         }
     }
 
+    /// Within an octant the angle depends on the slope alone, cut to 2^−22; what is cut lies between two
+    /// neighbouring slopes, and the true angle between theirs. So this is the farthest of all pairs.
     #[test]
-    fn the_ratio_is_cut() {
-        let ratio_of = |smaller, larger| ratio(Exact::of(smaller), Exact::of(larger));
-        assert_eq!(ratio_of(1.0, 1.0), 1 << 22);
-        assert_eq!(ratio_of(1.0_f64.next_down(), 1.0), (1 << 22) - 1);
-        assert_eq!(ratio_of(1.0, 3.0), (1 << 22) / 3);
-        assert_eq!(ratio_of(1.0, f64::from(1 << 22)), 1);
-        assert_eq!(ratio_of(1.0_f64.next_down(), f64::from(1 << 22)), 0);
-        assert_eq!(ratio_of(f64::from_bits(1), f64::MAX), 0);
+    fn no_slope_is_farther_than_the_document_says() {
+        const STEPS: u32 = 1 << 22;
+        let units = |slope: u32| {
+            let slope = f64::from(slope.min(STEPS)) / f64::from(STEPS);
+            slope.atan() / TAU * f64::from(TURN)
+        };
+        let farthest = |slope: u32| {
+            let port = f64::from(ffi::angle(f64::from(STEPS), f64::from(slope)));
+            let (low, high) = (units(slope), units(slope + 1));
+            (port - low).abs().max((port - high).abs())
+        };
+        let farthest = (0..=STEPS).map(farthest).fold(0.0, f64::max);
+        assert!((0.8008..0.8009).contains(&farthest), "{farthest}");
+    }
+
+    #[test]
+    fn the_slope_is_cut() {
+        let slope_of = |smaller, larger| slope(Exact::of(smaller), Exact::of(larger));
+        assert_eq!(slope_of(1.0, 1.0), 1 << 22);
+        assert_eq!(slope_of(1.0_f64.next_down(), 1.0), (1 << 22) - 1);
+        assert_eq!(slope_of(1.0, 3.0), (1 << 22) / 3);
+        assert_eq!(slope_of(1.0, f64::from(1 << 22)), 1);
+        assert_eq!(slope_of(1.0_f64.next_down(), f64::from(1 << 22)), 0);
+        assert_eq!(slope_of(f64::from_bits(1), f64::MAX), 0);
         assert_eq!(
-            ratio_of(f64::from_bits(1), f64::from_bits(3)),
+            slope_of(f64::from_bits(1), f64::from_bits(3)),
             (1 << 22) / 3
         );
         assert_eq!(
-            ratio_of(f64::MIN_POSITIVE / 2.0, f64::MIN_POSITIVE),
+            slope_of(f64::MIN_POSITIVE / 2.0, f64::MIN_POSITIVE),
             1 << 21
         );
     }

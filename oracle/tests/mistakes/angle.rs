@@ -16,7 +16,7 @@ struct Rules {
     parted: fn(u64) -> (u64, u64),
     /// The quotient of the smaller number's digits, and 22 more, by the larger's.
     quotient: fn(u128, u128) -> u128,
-    /// The ratio: the quotient divided by so many powers of two.
+    /// The slope: the quotient divided by so many powers of two.
     cut: fn(u128, u64) -> u64,
     /// An entry of the table.
     table: fn(u64) -> u64,
@@ -75,8 +75,8 @@ fn angle_by(rules: Rules, re: f64, im: f64) -> i32 {
     let (m, k) = (rules.parted)(smaller.abs().to_bits());
     let (n, l) = (rules.parted)(larger.abs().to_bits());
     let quotient = (rules.quotient)(u128::from(m) << 22, u128::from(n));
-    let ratio = (rules.cut)(quotient, l - k);
-    let (at, beyond) = (ratio >> 16, ratio % 65536);
+    let slope = (rules.cut)(quotient, l - k);
+    let (at, beyond) = (slope >> 16, slope % 65536);
     let octant = (rules.between)((rules.table)(at), (rules.table)(at + 1), beyond) as i32;
     let quarter = if in_second {
         (rules.second)(octant)
@@ -188,7 +188,7 @@ fn mistakes_in_the_octant_are_found() {
 }
 
 #[test]
-fn mistakes_in_the_ratio_are_found() {
+fn mistakes_in_the_slope_are_found() {
     each_is_found(
         angle,
         &[

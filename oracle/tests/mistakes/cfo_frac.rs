@@ -16,7 +16,7 @@ fn rust(pair: Pair<u64>) -> f64 {
     cfo_frac::rust(pair.value().re, pair.value().im)
 }
 
-/// Negated as a whole number, then divided.
+/// Divided, then taken from +0.0, which gives the bits of a whole number that is negated first.
 fn right(pair: Pair<u64>) -> f64 {
     0.0 - angle(pair) / 65536.0
 }

@@ -1,13 +1,13 @@
 -- `angle::angle` meets its contract: half a turn and less stays, more is a turn less.
 -- Assumes nothing.
 use mathlib.Core.Path.{_≡_, refl, sym, ap, _∙_, subst}
-use Prim.Native.Nat.{ℕ, _≤_, _<_}
+use Prim.Native.Nat.{ℕ, _<_}
 use native.Mathlib.Omega.{arith}
 use borrow.Author.Needs.{needs}
 use borrow.Author.Tests.{lt-leb}
 use lib.IntN.{ℤ, pos, _-ℤ_}
 use mir.Syntax.{w32}
-use mir.Val.{SFits, toZ, ofZ}
+use mir.Val.{SFits, toZ}
 use mir.ValLaws.{toZ-pos, toZ-ofZ}
 use Rattle.angle.specs.Angle.{signed, angleOf}
 use Rattle.angle.specs.Circle.{signed-near, signed-far}

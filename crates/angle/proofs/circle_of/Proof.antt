@@ -1,11 +1,11 @@
 -- `angle::circle_of` meets its contract: a number that is no NaN has the bits of its value.
 -- Assumes nothing.
-use mathlib.Core.Path.{_≡_, sym, ap, _∙_, subst}
+use mathlib.Core.Path.{sym, ap, _∙_, subst}
 use Prim.Native.Nat.{ℕ, _<_}
 use native.Mathlib.Omega.{arith}
 use borrow.Author.Needs.{needs}
 use lib.Dec.{T}
-use lib.Ieee.{binary64, fits, ofBits}
+use lib.Ieee.{binary64, fits}
 use lib.Ieee.Bits.{ofBits-toBits}
 use lib.Ieee.Compare.{differs-from-itself}
 use Rattle.ieee.specs.Order.{no-nan}

@@ -1,7 +1,7 @@
 -- `angle::circle_of_bits` meets its contract: the sizes of the two numbers, in units of 2 ^ -1074, have the angle of the numbers.
 -- Assumes nothing.
-use mathlib.Core.Path.{_≡_, sym, ap, _∙_, subst}
-use Prim.Native.Nat.{ℕ, _%_, _≤_, _<_}
+use mathlib.Core.Path.{_≡_, sym, ap, _∙_}
+use Prim.Native.Nat.{_%_}
 use native.Mathlib.Omega.{arith}
 use borrow.Author.Needs.{needs}
 use lib.Dec.{leb}
@@ -39,14 +39,14 @@ returns-3 c =
 quarter-of-requires : tie.Need-quarter-of-requires
 quarter-of-requires c κs = search needs
 
-mirrored-requires : tie.Need-mirrored-requires
-mirrored-requires c κs = search needs
+mirror-of-requires : tie.Need-mirror-of-requires
+mirror-of-requires c κs = search needs
 
-mirrored-requires-2 : tie.Need-mirrored-requires-2
-mirrored-requires-2 c κs =
+mirror-of-requires-2 : tie.Need-mirror-of-requires-2
+mirror-of-requires-2 c κs =
     let l = leb 9223372036854775808 (c .before .before .before .before .before .args .x) in
     let m = half-most l (c .before .quarter-of .result) (omega arith) in
-    let e = c .mirrored .ensures in
+    let e = c .mirror-of .ensures in
     omega arith
 
 returns-4 : tie.Need-returns-4
@@ -57,8 +57,8 @@ returns-4 c =
     let b = s .y % 9223372036854775808 in
     let l = leb 9223372036854775808 (s .x) in
     let r = leb 9223372036854775808 (s .y) in
-    c .mirrored2 .ensures
-    ∙ ap (mirror r 65536) (c .before .mirrored .ensures ∙ ap (mirror l 32768) (c .before .before .quarter-of .ensures .0))
+    c .mirror-of2 .ensures
+    ∙ ap (mirror r 65536) (c .before .mirror-of .ensures ∙ ap (mirror l 32768) (c .before .before .quarter-of .ensures .0))
     ∙ sym (around-some l (sizeOf a) r (sizeOf b) (size-some a b (omega arith)))
     ∙ sym (bits-circle (s .x) (s .y) (omega arith) (omega arith) (omega arith) (omega arith))
 
@@ -71,6 +71,6 @@ circle-of-bits-spec =
     add-if3
     returns-3
     quarter-of-requires
-    mirrored-requires
-    mirrored-requires-2
+    mirror-of-requires
+    mirror-of-requires-2
     returns-4)

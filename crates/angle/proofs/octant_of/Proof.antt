@@ -1,12 +1,12 @@
 -- `angle::octant_of` meets its contract.
 -- Assumes nothing.
 use mathlib.Core.Path.{_≡_, sym, subst}
-use Prim.Native.Nat.{ℕ, _+_, _*_, _/_, _%_, _≤_}
+use Prim.Native.Nat.{ℕ, _+_, _/_, _%_, _≤_}
 use native.Mathlib.Omega.{arith}
 use borrow.Author.Needs.{needs}
-use Rattle.angle.specs.Angle.{between, octant}
+use Rattle.angle.specs.Angle.{mixed, octant}
 use Rattle.angle.specs.Arctangents.{entryAt}
-use Rattle.angle.specs.Table.{mixed, mixed-most, entry-most, octant-most}
+use Rattle.angle.specs.Table.{mixed-most, entry-most, octant-most}
 use Rattle.angle.proofs.octant_of.Statement.{statement}
 use Rattle.angle.proofs.octant_of.Tie as tie
 
@@ -47,7 +47,8 @@ unfolding octant
 returns c =
     let e = c .before .before .ends-at in
     let q = c .before .before .before .args .q in
-    let r : between (e .result .lo) (e .result .hi) (q % 65536) ≡ octant q = λ i. between (e .ensures .0 i) (e .ensures .1 i) (q % 65536) in
+    let r : (mixed (e .result .lo) (e .result .hi) (q % 65536) + 131072) / 262144 ≡ octant q =
+    λ i. (mixed (e .ensures .0 i) (e .ensures .1 i) (q % 65536) + 131072) / 262144 in
     (r, subst (λ (x : ℕ). x ≤ 8192) (sym r) (octant-most q))
 
 pub octant-of-spec : {M : Type 1} → statement M

@@ -1,7 +1,7 @@
 -- `angle::quarter_of` meets its contract: the sizes are in the order of their bits.
 -- Assumes nothing.
 use mathlib.Core.Path.{_≡_, sym, ap, _∙_, subst}
-use Prim.Native.Nat.{ℕ, _-_, _≤_, _<_}
+use Prim.Native.Nat.{ℕ, _-_, _≤_}
 use native.Mathlib.Omega.{arith}
 use borrow.Author.Needs.{needs}
 use Rattle.angle.specs.Angle.{slope, octant}

@@ -1,7 +1,7 @@
 -- `angle::slope_of` meets its contract: the quotient of the digits, moved down by the difference of the exponents.
 -- Assumes nothing.
-use mathlib.Core.Path.{_≡_, sym, _∙_}
-use Prim.Native.Nat.{ℕ, _-_, _/_, _^_, _≤_}
+use mathlib.Core.Path.{sym, _∙_}
+use Prim.Native.Nat.{_-_}
 use native.Mathlib.Omega.{arith}
 use borrow.Author.Needs.{needs}
 use Rattle.angle.proofs.Numbers.{moved-out}
