@@ -8,7 +8,7 @@ use Rattle.std.proofs.Math.Nat.{div-eq_of_lt}
 use Rattle.std.proofs.Math.Dec.{is_le, compare_is_eq, nleb→lt}
 use Rattle.std.specs.Float.{inf, Format, binary32, binary64}
 use Rattle.std.specs.Float.Ieee.{prec, low, size, nearest, units, round, of_bits}
-use Rattle.std.specs.Float.Ieee.Digits.{size_le}
+use Rattle.std.specs.Float.Ieee.Digits.{size-le}
 use Rattle.std.specs.Float.Ieee.Fits.{eq→eqb, nearest-le, round_is}
 use Rattle.std.specs.Float.Ieee.Nearest.{closest, closest_same, nearest-ge}
 use Rattle.ieee.specs.Numbers.{shift, size_gt}
@@ -87,7 +87,7 @@ pub dropped : (p n den K : ℕ) → 0 < den → 0 < p → n < 2 ^ (p + K) * den 
 dropped p n den K D P hi lo = go lo
   where
     S : size (n / den) ≤ p + K
-    S = size_le (n / den) (p + K) ((div-lt_iff_lt-mul D).1 hi)
+    S = size-le (n / den) (p + K) ((div-lt_iff_lt-mul D).1 hi)
 
     none : (z p K : ℕ) → z ≤ p + K → K ≡ 0 → z - p ≡ K
     none z p K a b = omega arith

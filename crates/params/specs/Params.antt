@@ -4,7 +4,7 @@ use Rattle.std.specs.Prelude.{ℕ, cond, eqb}
 use Rattle.params.specs.declared.Mode.{Mode}
 use Rattle.params.specs.declared.Mode.TheVariants.{M1, M2, M3}
 use Rattle.params.specs.declared.ModeNumber.{ModeNumber}
-use Rattle.params.specs.declared.ModeNumber.TheVariants as mode_number
+use Rattle.params.specs.declared.ModeNumber.TheVariants as mode_variants
 use Rattle.params.specs.declared.GuardInterval.TheVariants.{G1_4, G1_8, G1_16, G1_32}
 use Rattle.params.specs.declared.GuardDenominator.{GuardDenominator}
 use Rattle.params.specs.declared.GuardDenominator.TheVariants as guard_denominator
@@ -18,10 +18,10 @@ mode_number M3 = 3
 
 abbrev pub mode_from : ℕ → ModeNumber
 mode_from n =
-    cond (eqb n 1) (mode_number.Known M1)
-    (cond (eqb n 2) (mode_number.Known M2)
-    (cond (eqb n 3) (mode_number.Known M3)
-    mode_number.Unknown))
+    cond (eqb n 1) (mode_variants.Known M1)
+    (cond (eqb n 2) (mode_variants.Known M2)
+    (cond (eqb n 3) (mode_variants.Known M3)
+    mode_variants.Unknown))
 
 -- c, nc, k_total and n of the table of sizes
 abbrev pub carriers_per_segment : Mode → ℕ

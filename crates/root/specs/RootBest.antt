@@ -8,7 +8,7 @@ use Rattle.std.proofs.Math.Nat.{eq_of_mul-eq-mul_right}
 use Rattle.std.proofs.Math.Arith.{lt_of_le-ne}
 use Rattle.std.proofs.Math.Pow.{shr_mono}
 use Rattle.std.specs.Float.Ieee.{size}
-use Rattle.std.specs.Float.Ieee.Digits.{size-lt, size_le}
+use Rattle.std.specs.Float.Ieee.Digits.{size-lt, size-le}
 use Rattle.ieee.specs.Numbers.{split, le_of_next, powers, fine}
 use Rattle.root.specs.Root.{more, whole_root, root_drop, root_kept}
 use Rattle.root.specs.WholeRoot.{whole_root_lem, square_back}
@@ -132,7 +132,7 @@ module _ (n : ℕ) (big : 104 < size n) (m₀ j₀ : ℕ) (small : m₀ < 2 ^ 53
 
 -- ---- the root grows with n
 size_mono : (n m : ℕ) → n ≤ m → size n ≤ size m
-size_mono n m h = size_le n (size m) (lt_of_le_of_lt h (size-lt m))
+size_mono n m h = size-le n (size m) (lt_of_le_of_lt h (size-lt m))
 
 root_mono : (n m : ℕ) → n ≤ m → whole_root n ≤ whole_root m
 root_mono n m h = le_of_next (square_back (whole_root n) (whole_root m + 1) (lt_of_le_of_lt (le_trans (whole_root_lem n).low h) (whole_root_lem m).high))

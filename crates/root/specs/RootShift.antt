@@ -5,7 +5,7 @@ use Rattle.std.specs.Prelude.{◌≡◌, refl, Bool, true, false, ℕ, zero, suc
 use Rattle.std.proofs.Common.{sym, ap, ◌∙◌, subst, inl, inr, le_trans, le_of_eq, le_of_lt, lt_of_lt_of_le, lt_of_le_of_lt, zero-mul, eq-zero-or-pos, zero-lt-suc, mul_comm, mul_assoc, mul_right_comm, mul-pos, mul-le-mul, mul-le-mul_right, arith, lit<, lit≤, pow-add, pow_pos, pow_mono, shl_lt}
 use Rattle.std.specs.Float.{nan, inf, fin, binary64}
 use Rattle.std.specs.Float.Ieee.{up, down, size, fits}
-use Rattle.std.specs.Float.Ieee.Digits.{size-lt, size_le, size_reaches}
+use Rattle.std.specs.Float.Ieee.Digits.{size-lt, size-le, size_reaches}
 use Rattle.std.specs.Float.Ieee.Fits.{up_pos, cond-fits, nan-fits, inf-fits}
 use Rattle.std.specs.Float.Ieee.Nearest.{div_same}
 use Rattle.std.specs.Float.Ieee.Exact.{HasValue, units_val}
@@ -22,7 +22,7 @@ size_shift : (n u : ℕ) → 0 < size n → size (n * 2 ^ u) ≡ size n + u
 size_shift n u h =
     let z = size n in
     let lo : 2 ^ (z - 1 + u) ≤ n * 2 ^ u = le_trans (le_of_eq (pow-add 2 (z - 1) u)) (mul-le-mul_right (2 ^ u) (size_reaches n (z - 1) (pred z h))) in
-    join z u (size (n * 2 ^ u)) h (size_le (n * 2 ^ u) (z + u) (shl_lt z u (size-lt n))) (size_gt (n * 2 ^ u) (z - 1 + u) lo)
+    join z u (size (n * 2 ^ u)) h (size-le (n * 2 ^ u) (z + u) (shl_lt z u (size-lt n))) (size_gt (n * 2 ^ u) (z - 1 + u) lo)
   where
     pred : (z : ℕ) → 0 < z → z - 1 < z
     pred z h = omega arith
@@ -101,7 +101,7 @@ units_long a p = lt_of_lt_of_le (lit< tt) (le_of_lt (size_gt (a * 2 ^ 1074) 1074
 root_under : (a : ℕ) → 0 < a → a < 2 ^ 2098 → root_value (a * 2 ^ 1074) < 2 ^ 2098
 root_under a p h =
     let n = a * 2 ^ 1074 in
-    let z : size n ≤ 3172 = size_le n 3172 (shl_lt 2098 1074 h) in
+    let z : size n ≤ 3172 = size-le n 3172 (shl_lt 2098 1074 h) in
     lt_of_le_of_lt (mul-le-mul (kept_high n (units_long a p)) (pow_mono (few (size n) z)))
     (subst (λ (x : ℕ). x < 2 ^ 2098) (pow-add 2 53 1533) (lit< tt))
   where

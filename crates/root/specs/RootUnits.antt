@@ -5,7 +5,7 @@ use Rattle.std.specs.Prelude.{◌≡◌, refl, Bool, true, false, not, ℕ, zero
 use Rattle.std.proofs.Common.{sym, ap, ◌∙◌, subst, le_trans, le_of_eq, mul_assoc, mul-add, add-mul, zero-mul, mul-le-mul_right, mul-div_cancel, arith, ltb→lt, lt→ltb, pow-add, pow_pos, shl_lt}
 use Rattle.std.specs.Float.{nan, inf, fin, binary64}
 use Rattle.std.specs.Float.Ieee.{up, down, size, units}
-use Rattle.std.specs.Float.Ieee.Digits.{size_le}
+use Rattle.std.specs.Float.Ieee.Digits.{size-le}
 use Rattle.std.specs.Float.Ieee.Fits.{down_pos}
 use Rattle.std.specs.Float.Ieee.Exact.{HasValue}
 use Rattle.ieee.specs.Numbers.{same_bool, ltb_scale, no_product, four_squares, size_gt}
@@ -40,7 +40,7 @@ root_is N g s r lo hi e h =
     let n = N * P in
     let k : (size n + 1) / 2 - 53 ≡ g =
     half_digits g (size n) (size_gt n (104 + (g + g)) (le_trans (le_of_eq (pow-add 2 104 (g + g))) (mul-le-mul_right P lo)))
-    (size_le n (106 + (g + g)) (shl_lt 106 (g + g) hi)) in
+    (size-le n (106 + (g + g)) (shl_lt 106 (g + g) hi)) in
     let w : whole_root (n / P) ≡ s = ap whole_root (mul-div_cancel N (pow_pos (g + g))) ∙ whole_root_is N s r e h in
     ap (λ (k : ℕ). let w = whole_root (n / 2 ^ (k + k)) in units binary64 false (more (ltb ((2 * w + 1) * (2 * w + 1) * 2 ^ (k + k)) (4 * n)) w) k) k
     ∙ ap (λ (w : ℕ). units binary64 false (more (ltb ((2 * w + 1) * (2 * w + 1) * P) (4 * n)) w) g) w

@@ -4,15 +4,7 @@ use mathlib.Core.Path.{ap, ◌∙◌}
 use Prim.Native.Nat.{ℕ, ◌%◌}
 use native.Mathlib.Nat.{one-mul, mod-eq_of_lt}
 use lib.Pow.{pow-lt}
-use borrow.Author.Rules.{rules}
-use Rattle.ieee.proofs.power.Statement.{statement}
-use Rattle.ieee.proofs.power.Tie as tie
+use Rattle.ieee.proofs.power.Goals as goal
 
-shl-result : tie.Need-overflow-shl-result
-shl-result c = search rules
-
-returns : tie.Need-returns
+pub returns : goal.returns
 returns c = ap (λ (x : ℕ). x % 18446744073709551616) (one-mul _) ∙ mod-eq_of_lt (pow-lt c.requires)
-
-pub power_spec : {M : Type 1} → statement M
-power_spec = tie.close (tie.spec shl-result returns)
