@@ -15,7 +15,7 @@ ghost use Rattle.angle.specs.Inner.{digits, exponent, size_of};
 use complex::C64;
 
 // A size of m * 2^k units of 2^-1074, of which every f64 is a whole number.
-#[derive(Drop)]
+#[derive(Clone, Copy)]
 pub struct Size {
     pub m: u64,
     pub k: u64,
@@ -66,7 +66,7 @@ fn slope_of(a: u64, b: u64) -> u64
 }
 
 // Two neighbours in the table.
-#[derive(Drop)]
+#[derive(Clone, Copy)]
 pub struct Ends {
     pub lo: u64,
     pub hi: u64,

@@ -15,7 +15,7 @@ use params::SegmentKind;
 const MINUS_ONE: f32 = -1.0;
 
 // Sums over pilots 12 carriers apart, and the last pilot with its norm, if the next is 12 further on.
-#[derive(Drop)]
+#[derive(Clone, Copy)]
 pub struct Run {
     pub joined: bool,
     pub value: C32,
@@ -25,21 +25,21 @@ pub struct Run {
 }
 
 // A carrier's pair times its pilot's value, which takes the pilot's sign out of it; and its squared size.
-#[derive(Drop)]
+#[derive(Clone, Copy)]
 pub struct Pilot {
     pub value: C32,
     pub square: f64,
 }
 
 // How coherent the pilots of a phase are, and whether they have energy.
-#[derive(Drop)]
+#[derive(Clone, Copy)]
 pub struct Coherence {
     pub metric: f32,
     pub has_energy: bool,
 }
 
 // What one symbol says of the phase.
-#[derive(Drop)]
+#[derive(Clone, Copy)]
 pub struct Ballot {
     // The phase with the greatest metric, as the symbol itself has it.
     pub choice: u8,

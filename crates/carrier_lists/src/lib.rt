@@ -80,7 +80,7 @@ fn collect_data(mode: Mode, roles: &[u8], out: &mut [u32])
 }
 
 // What the continual list answers: how many numbers were written, or the refusal.
-#[derive(Drop)]
+#[derive(Clone, Copy)]
 pub enum ContinualList {
     Count(usize),
     Refused(u8),

@@ -101,7 +101,7 @@ fn band_role(layout: FrameLayout, phase: u8, k: BandCarrier) -> CarrierRole
 }
 
 // What the lookup answers.
-#[derive(Drop)]
+#[derive(Clone, Copy)]
 pub enum RoleAnswer {
     Role(CarrierRole),
     Refused(u8),

@@ -20,7 +20,7 @@ use params::{Mode, SegmentKind};
 use pilot_times::{Current, Scattered, Times, Window};
 
 // A point of the grid, counted from the lowest: each is three carriers above the one before.
-#[derive(Drop)]
+#[derive(Clone, Copy)]
 pub struct GridPoint(pub usize);
 
 impl GridPoint {

@@ -4,13 +4,13 @@ ghost use Rattle.std.specs.Prelude.{◌≡◌};
 ghost use Rattle.std.specs.Float.{binary32, binary64};
 ghost use Rattle.complex.specs.Complex.{pair, of32, of64, product, conjugate, plus, minus, squared_size, scaled, divided, norm32, norm64};
 
-#[derive(Drop)]
+#[derive(Clone, Copy)]
 pub struct C32 {
     pub re: f32,
     pub im: f32,
 }
 
-#[derive(Drop)]
+#[derive(Clone, Copy)]
 pub struct C64 {
     pub re: f64,
     pub im: f64,

@@ -4,7 +4,7 @@ ghost use Rattle.correlation.specs.Correlation.{starts};
 ghost use Rattle.correlation.specs.Inner.{Holds, Writable, Windowed, Inside};
 
 // The summed correlation and energy at an offset.
-#[derive(Drop)]
+#[derive(Clone, Copy)]
 pub struct Window {
     pub re: f64,
     pub im: f64,

@@ -34,7 +34,7 @@ pub const AC2: u8 = 5;
 pub const EDGE_CP: u8 = 6;
 
 // Kind of an AC carrier.
-#[derive(Drop)]
+#[derive(Clone, Copy)]
 pub enum AcKind {
     // In all segments.
     Ac1,
@@ -43,7 +43,7 @@ pub enum AcKind {
 }
 
 // Role of a band carrier in a symbol.
-#[derive(Drop)]
+#[derive(Clone, Copy)]
 pub enum CarrierRole {
     Data,
     // Scattered pilot.
@@ -142,21 +142,21 @@ pub fn segment_roles(mode: Mode, seg: Segment, kind: SegmentKind, phase: u8, out
 }
 
 // A layout that was accepted: its mode, and the kind of each segment, by segment number.
-#[derive(Drop)]
+#[derive(Clone, Copy)]
 pub struct FrameLayout {
     pub mode: Mode,
     pub kinds: [u8; 13],
 }
 
 // Kinds from outside: their refusal, 2 unless they are thirteen of 0 or 1, or 0; and these, or zeros.
-#[derive(Drop)]
+#[derive(Clone, Copy)]
 struct KindsRead {
     code: u8,
     kinds: [u8; 13],
 }
 
 // The refusal of a mode and its kinds, or 0 and the layout. Beside a refusal the layout is all coherent.
-#[derive(Drop)]
+#[derive(Clone, Copy)]
 pub struct NewLayout {
     pub code: u8,
     pub layout: FrameLayout,

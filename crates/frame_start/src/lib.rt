@@ -10,7 +10,7 @@ const W0: u16 = 0b0011_0101_1110_1110;
 const W1: u16 = 0b1100_1010_0001_0001;
 
 // A synchronising word: as the standard writes it, or its complement.
-#[derive(Drop)]
+#[derive(Clone, Copy)]
 pub enum SyncWord {
     W0,
     W1,
@@ -29,7 +29,7 @@ impl SyncWord {
 }
 
 // The index of a word's first value, and which word it is.
-#[derive(Drop)]
+#[derive(Clone, Copy)]
 pub enum FrameStart {
     Start(usize, SyncWord),
     NoStart,

@@ -15,7 +15,7 @@ use samples_needed::Codes;
 
 // A guess: codes of mode and guard, the offset of a guard's start, the metric, and both parts of the
 // summed correlation.
-#[derive(Drop)]
+#[derive(Clone, Copy)]
 pub struct ModeGuess {
     pub mode: u8,
     pub guard: u8,
@@ -25,7 +25,7 @@ pub struct ModeGuess {
     pub im: f64,
 }
 
-#[derive(Drop)]
+#[derive(Clone, Copy)]
 pub enum GuardSearch {
     Found(ModeGuess),
     Nothing,
@@ -33,7 +33,7 @@ pub enum GuardSearch {
 }
 
 // The best so far. Where none was found yet, `guess` says nothing.
-#[derive(Drop)]
+#[derive(Clone, Copy)]
 pub struct Best {
     pub found: bool,
     pub guess: ModeGuess,

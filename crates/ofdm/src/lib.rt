@@ -8,23 +8,23 @@ ghost use Rattle.ofdm.specs.Band.{segment_at, place_of, first_carrier, carrier_a
 use params::{Mode, ModeNumber};
 
 // A carrier's number in the band: 0 is the lowest frequency, k_total - 1 the edge.
-#[derive(Drop)]
+#[derive(Clone, Copy)]
 pub struct BandCarrier(pub usize);
 
 // A carrier's place in its segment, from 0 to c - 1.
-#[derive(Drop)]
+#[derive(Clone, Copy)]
 pub struct SegmentPlace(pub usize);
 
 // A bin of the FFT: bin 0 is the centre carrier.
-#[derive(Drop)]
+#[derive(Clone, Copy)]
 pub struct FftBin(pub usize);
 
 // A segment's number, 0 to 12, as the standard counts from the band's middle.
-#[derive(Drop)]
+#[derive(Clone, Copy)]
 pub struct Segment(pub usize);
 
 // A segment's place in the band, 0 to 12 from the lowest frequency.
-#[derive(Drop)]
+#[derive(Clone, Copy)]
 pub struct BandPlace(pub usize);
 
 const SEGMENT_AT: [usize; 13] = [11, 9, 7, 5, 3, 1, 0, 2, 4, 6, 8, 10, 12];
@@ -66,7 +66,7 @@ pub fn band_carrier(mode: Mode, place: BandPlace, p: SegmentPlace) -> BandCarrie
 }
 
 // Where a carrier is: its segment's place in the band, and its own place in that segment.
-#[derive(Drop)]
+#[derive(Clone, Copy)]
 pub struct CarrierPlace {
     pub place: BandPlace,
     pub p: SegmentPlace,
@@ -116,7 +116,7 @@ pub fn zero_band() -> [u8; 5617]
 }
 
 // What the lookup answers.
-#[derive(Drop)]
+#[derive(Clone, Copy)]
 pub enum BinLookup {
     Bin(FftBin),
     Refused(u8),

@@ -7,7 +7,7 @@ ghost use Rattle.open_line.specs.Gather.{new_line, pushed, held_answer, held_las
 use segment_answer::{put_answer, put_refused};
 
 // A line that is open: its first 17 bytes, and how many it has, where 18 stands for more.
-#[derive(Drop)]
+#[derive(Clone, Copy)]
 pub struct Line {
     pub bytes: [u8; 17],
     pub len: usize,

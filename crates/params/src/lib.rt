@@ -7,7 +7,7 @@ ghost use Rattle.params.specs.Params.{mode_number, mode_from, guard_from, kind_c
 ghost use Rattle.params.specs.Params.{carriers_per_segment, data_carriers_per_segment, total_carriers, fft_size};
 
 // System mode.
-#[derive(Drop)]
+#[derive(Clone, Copy)]
 pub enum Mode {
     // 108 carriers a segment, 2k FFT.
     M1,
@@ -18,7 +18,7 @@ pub enum Mode {
 }
 
 // What a number from outside says as a mode.
-#[derive(Drop)]
+#[derive(Clone, Copy)]
 pub enum ModeNumber {
     Known(Mode),
     Unknown,
@@ -93,7 +93,7 @@ impl Mode {
 }
 
 // Guard interval ratio.
-#[derive(Drop)]
+#[derive(Clone, Copy)]
 pub enum GuardInterval {
     G1_4,
     G1_8,
@@ -102,7 +102,7 @@ pub enum GuardInterval {
 }
 
 // What a number from outside says as a guard interval's denominator.
-#[derive(Drop)]
+#[derive(Clone, Copy)]
 pub enum GuardDenominator {
     Known(GuardInterval),
     Unknown,
@@ -124,7 +124,7 @@ impl GuardInterval {
 }
 
 // Modulation type of an OFDM segment.
-#[derive(Drop)]
+#[derive(Clone, Copy)]
 pub enum SegmentKind {
     // QPSK, 16QAM or 64QAM with scattered pilots.
     Coherent,

@@ -11,7 +11,7 @@ ghost use Rattle.pilot_phase.specs.Inner.{Whole, Votable, VoteCountsOf, Counted,
 use frame::FrameLayout;
 use params::Mode;
 
-#[derive(Drop)]
+#[derive(Clone, Copy)]
 pub enum PilotPhase {
     NoScatteredPilots,
     // The phase of symbol 0, and the share of the votes for it. Symbol j has phase (phase + j) % 4.
@@ -19,7 +19,7 @@ pub enum PilotPhase {
 }
 
 // What a call answers: what it detected, or the number by which it was refused.
-#[derive(Drop)]
+#[derive(Clone, Copy)]
 pub enum PhaseAnswer {
     Detected(PilotPhase),
     Refused(u8),
@@ -27,7 +27,7 @@ pub enum PhaseAnswer {
 
 // The answer; the four counts; and of the counts of the symbols that were heard, the largest less the
 // largest of the others.
-#[derive(Drop)]
+#[derive(Clone, Copy)]
 pub struct PilotAnswer {
     pub answer: PhaseAnswer,
     pub counts: [u32; 4],
@@ -35,7 +35,7 @@ pub struct PilotAnswer {
 }
 
 // How many votes each phase of symbol 0 has: of all symbols, and of those that were heard.
-#[derive(Drop)]
+#[derive(Clone, Copy)]
 pub struct VoteCounts {
     pub all: [u32; 4],
     pub heard: [u32; 4],

@@ -10,7 +10,7 @@ ghost use Rattle.pilot_times.specs.Inner.{Usable, ScatteredAgo, ScatteredTimes, 
 
 // The symbol that a grid is asked for: the phase of its scattered pilots, its index among the spectra,
 // and how many scattered pilots of a carrier count on each side of it.
-#[derive(Drop)]
+#[derive(Clone, Copy)]
 pub struct Current {
     pub phase: u8,
     pub index: usize,
@@ -18,7 +18,7 @@ pub struct Current {
 }
 
 // `count` spectra of `len` carriers, and the current one among them.
-#[derive(Drop)]
+#[derive(Clone, Copy)]
 pub struct Window {
     pub len: usize,
     pub count: usize,
@@ -27,7 +27,7 @@ pub struct Window {
 
 // Offsets from the current symbol: `count` of them, the first `before` symbols before it, then `step`
 // apart.
-#[derive(Drop)]
+#[derive(Clone, Copy)]
 pub struct Offsets {
     pub before: usize,
     pub step: usize,
@@ -35,7 +35,7 @@ pub struct Offsets {
 }
 
 // The spectra in which a carrier's pilot is sent: `count` of them from `first` on, `step` apart.
-#[derive(Drop)]
+#[derive(Clone, Copy)]
 pub struct Sent {
     pub first: usize,
     pub step: usize,
@@ -44,7 +44,7 @@ pub struct Sent {
 
 // The same, with the mean of their offsets from the current symbol and the spread about it. Many
 // carriers share them, so they are worked out once.
-#[derive(Drop)]
+#[derive(Clone, Copy)]
 pub struct Times {
     pub sent: Sent,
     pub mean: f32,
@@ -52,7 +52,7 @@ pub struct Times {
 }
 
 // The times of the carriers whose scattered pilot was sent last now, or one, two or three symbols ago.
-#[derive(Drop)]
+#[derive(Clone, Copy)]
 pub struct Scattered {
     pub ago0: Times,
     pub ago1: Times,

@@ -12,13 +12,13 @@ use ofdm::{BandPlace, Segment};
 use params::{Mode, ModeNumber};
 
 // The sign register of Figure 3-31: D1 to D11.
-#[derive(Drop)]
+#[derive(Clone, Copy)]
 pub struct Prbs {
     pub bits: [u8; 11],
 }
 
 // What a step gives: the sign W, and the register handed on.
-#[derive(Drop)]
+#[derive(Clone, Copy)]
 pub struct PrbsStep {
     pub w: u8,
     pub next: Prbs,

@@ -14,14 +14,14 @@ ghost use Rattle.ratio.specs.Inner.{Spreadable, Spread, Gatherable, Gathered, In
 use complex::C32;
 
 // One bin's ratio, or what refuses its pairs.
-#[derive(Drop)]
+#[derive(Clone, Copy)]
 pub enum BinRatio {
     Ratio(f32),
     Refused(u8),
 }
 
 // The sums of a bin: of the squares of its products, and of their squared sizes.
-#[derive(Drop)]
+#[derive(Clone, Copy)]
 pub struct BinSums {
     pub num: C32,
     pub den: f32,
@@ -183,7 +183,7 @@ pub fn refusal(len: usize, floats: usize, room: usize) -> u8
 
 // Neighbouring bins in the copy: `width` of them from bin `first` on, each of `count` pairs one behind
 // another, and `slot` pairs from one bin's first pair to the next bin's.
-#[derive(Drop)]
+#[derive(Clone, Copy)]
 pub struct BinBlock {
     pub first: usize,
     pub width: usize,

@@ -4,7 +4,7 @@ ghost use Rattle.std.specs.Prelude.{◌≡◌};
 ghost use Rattle.reading.specs.Read.{read_told};
 
 // So many bytes were read, the input has ended, or a read or a write failed.
-#[derive(Drop)]
+#[derive(Clone, Copy)]
 pub enum Input {
     More(usize),
     Ended,

@@ -34,7 +34,7 @@ pub fn read_part(room: &mut [u8], n: usize) -> bool {
 }
 
 // What stands where something may begin: all of it, nothing at all, or only a piece of it.
-#[derive(Drop)]
+#[derive(Clone, Copy)]
 pub enum Head {
     Whole,
     Nothing,
@@ -68,7 +68,7 @@ pub fn number_at(bytes: &[u8], at: usize) -> u64
 }
 
 // A number that was read, or that the input ended.
-#[derive(Drop)]
+#[derive(Clone, Copy)]
 pub enum Stored {
     Number(u64),
     Cut,
@@ -140,7 +140,7 @@ fn wide_word(number: u32) -> u64
 // What a stored answer owes of something that was lent: entries of so many bytes, of which the first
 // ones are written; how many of those are stored, since of entries that are all alike one is; and what
 // every entry was before the call, which all others must still be.
-#[derive(Drop)]
+#[derive(Clone, Copy)]
 struct Owed {
     size: u8,
     before: u64,
@@ -476,7 +476,7 @@ pub fn read_longs(n: usize) -> Longs {
 }
 
 // The wide numbers of a record, or that the input ended.
-#[derive(Drop)]
+#[derive(Clone, Copy)]
 pub enum Longs {
     Numbers(u64, u64),
     Cut,

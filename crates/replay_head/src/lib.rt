@@ -8,7 +8,7 @@ use tally::Tally;
 // order of the C function, and the entries of the list that is lent to be written. No operation is
 // lent two such lists. The first two numbers are there as bytes too, which most operations take: the
 // mode, and a phase or a filter.
-#[derive(Drop)]
+#[derive(Clone, Copy)]
 pub struct Call {
     pub code: u8,
     pub mode: u8,

@@ -7,7 +7,7 @@ ghost use Rattle.role_counts.specs.Counts.{units as Counts·units};
 use params::{Mode, SegmentKind};
 
 // How many carriers of a segment have each role.
-#[derive(Drop)]
+#[derive(Clone, Copy)]
 pub struct KindCounts {
     pub data: usize,
     pub sp: usize,

@@ -10,14 +10,14 @@ ghost use Rattle.root.specs.Root.{root_of};
 ghost use Rattle.root.specs.Inner.{Ready, Refined, Rooted, Lifted, RootBits, Near, NarrowRoot};
 
 // A whole root and what its square leaves of the number: s * s + r, with r at most 2 * s.
-#[derive(Drop)]
+#[derive(Clone, Copy)]
 pub struct RootRest {
     pub s: u64,
     pub r: u64,
 }
 
 // A number times 4^i.
-#[derive(Drop)]
+#[derive(Clone, Copy)]
 pub struct Lift {
     pub a: u64,
     pub i: u64,

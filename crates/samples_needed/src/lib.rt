@@ -7,14 +7,14 @@ ghost use Rattle.samples_needed.specs.Inner.{is_code, Counted};
 
 use params::{GuardDenominator, GuardInterval, Mode, ModeNumber};
 
-#[derive(Drop)]
+#[derive(Clone, Copy)]
 pub enum SamplesNeeded {
     Samples(usize),
     Refused(u8),
 }
 
 // What the codes of a list stand for: modes, or guards' denominators.
-#[derive(Drop)]
+#[derive(Clone, Copy)]
 pub enum Codes {
     Modes,
     Guards,

@@ -13,7 +13,7 @@ use params::{Mode, ModeNumber, SegmentKind};
 const HALF: f32 = 0.5;
 
 // The refusal's number or 0; then, by segment number, kinds as codes and their scores.
-#[derive(Drop)]
+#[derive(Clone, Copy)]
 pub struct DetectedKinds {
     pub code: u8,
     pub kinds: [u8; 13],
@@ -21,7 +21,7 @@ pub struct DetectedKinds {
 }
 
 // Ratios added up, and how many.
-#[derive(Drop)]
+#[derive(Clone, Copy)]
 pub struct Mean {
     pub sum: f32,
     pub count: usize,

@@ -12,7 +12,7 @@ use text::{Fit, put_cut};
 pub const ANSWER: usize = 512;
 
 // The line that is open after a byte of the input, and the index behind what was stored.
-#[derive(Drop)]
+#[derive(Clone, Copy)]
 struct Taken {
     line: Line,
     written: usize,
@@ -52,7 +52,7 @@ fn has_room(len: usize, at: usize) -> bool
 
 // What feeding some input gives: the line that is open, the index behind the bytes that were taken,
 // and the index behind what was stored.
-#[derive(Drop)]
+#[derive(Clone, Copy)]
 pub struct Fed {
     pub line: Line,
     pub used: usize,

@@ -15,7 +15,7 @@ use open_line::Line;
 use reading::Input;
 
 // What a turn leaves: how it stands with the input, and the line that is open.
-#[derive(Drop)]
+#[derive(Clone, Copy)]
 struct Turn {
     input: Input,
     line: Line,

@@ -10,20 +10,20 @@ use ofdm::{BandCarrier, FftBin, Segment, SegmentPlace};
 use params::{Mode, ModeNumber, SegmentKind};
 
 // A shift, and its score: the sum of the pattern's ratios divided by their number.
-#[derive(Drop)]
+#[derive(Clone, Copy)]
 pub struct FoundShift {
     pub shift: i64,
     pub score: f32,
 }
 
-#[derive(Drop)]
+#[derive(Clone, Copy)]
 pub enum ShiftAnswer {
     Found(FoundShift),
     Refused(u8),
 }
 
 // A shift, as its number from the lowest one, and its sum.
-#[derive(Drop)]
+#[derive(Clone, Copy)]
 pub struct Best {
     pub at: usize,
     pub sum: f32,

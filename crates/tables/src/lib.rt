@@ -14,7 +14,7 @@ ghost use Rattle.params.specs.declared.Mode.TheVariants.{M1, M2, M3};
 use params::{Mode, SegmentKind};
 
 // A row of a carrier table: `count` places of a segment, ascending, and zeros behind them.
-#[derive(Drop)]
+#[derive(Clone, Copy)]
 pub struct Positions {
     pub places: [u16; 20],
     pub count: usize,

@@ -4,7 +4,7 @@ ghost use Rattle.tally.specs.Tally.{capped, Counted};
 
 // How many entries were compared, how many differences there are, and whether the input was cut:
 // it ended in the middle of something, or what it held could not be read on.
-#[derive(Drop)]
+#[derive(Clone, Copy)]
 pub struct Tally {
     pub compared: u64,
     pub differ: u64,

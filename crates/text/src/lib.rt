@@ -78,7 +78,7 @@ pub fn put_text(out: &mut [u8], at: usize, text: &[u8]) -> usize
 }
 
 // Text that a buffer takes as far as it goes: the index behind all of it, or that its end is cut off.
-#[derive(Drop)]
+#[derive(Clone, Copy)]
 pub enum Fit {
     Whole(usize),
     Cut,

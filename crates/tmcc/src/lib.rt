@@ -9,7 +9,7 @@ use frame::FrameLayout;
 use ofdm::{BandPlace, SegmentPlace};
 use params::{Mode, SegmentKind};
 
-#[derive(Drop)]
+#[derive(Clone, Copy)]
 pub enum SoftTmcc {
     Value(f32),
     Refused(u8),

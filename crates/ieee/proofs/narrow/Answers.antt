@@ -6,27 +6,26 @@ use Prim.Native.Nat.{ℕ, ◌+◌, ◌-◌, ◌%◌, ◌≤◌, ◌<◌}
 use native.Mathlib.Nat.{zero-add}
 use native.Mathlib.Omega.{arith}
 use lib.Dec.{T}
-use lib.Ieee.{Float, binary32, binary64, nan, fits, of_bits, to_bits, div}
+use lib.Ieee.{Float, ne, binary32, binary64, nan, fits, of_bits, to_bits, div}
 use lib.Ieee.Bits.{of_bits-to_bits, to_bits-lt}
 use lib.Ieee.Compare.{differs_from_itself}
 use Rattle.ieee.specs.Narrow.{narrow_of}
 use Rattle.ieee.specs.Order.{no_nan}
 use Rattle.ieee.specs.Patterns.{no_nan_bits, bits_in}
-use Rattle.ieee.proofs.narrow.Tie as tie
 use Rattle.ieee.proofs.narrow.Goals as goal
 
 -- what owning an f64 tells: the format holds it
-held : (c : tie.Start) → T (fits binary64 c.args.x)
-held c = subst T (sym c.well_formed.0.1) tt
+held : (x : Float) → fits binary64 x ≡ true → T (fits binary64 x)
+held x e = subst T (sym e) tt
 
 of_nan : (x : Float) → x ≡ nan → div binary32 (of_bits binary32 0) (of_bits binary32 0) ≡ narrow_of x
 unfolding div of_bits narrow_of
 of_nan x e = subst (λ (y : Float). nan ≡ narrow_of y) (sym e) refl
 
 -- the bits without the sign end at the infinity's
-within : (c : tie.Else-x)
-    → (to_bits binary64 c.args.x % 9223372036854775808 ≤ 9218868437227405312) × (to_bits binary64 c.args.x < 18446744073709551616)
-within c = let x = c.args.x in (bits_in binary64 x (held c) (no_nan x c.if-x.false), to_bits-lt binary64 x (held c))
+within : (x : Float) → T (fits binary64 x) → ne x x ≡ false
+    → (to_bits binary64 x % 9223372036854775808 ≤ 9218868437227405312) × (to_bits binary64 x < 18446744073709551616)
+within x held h = (bits_in binary64 x held (no_nan x h), to_bits-lt binary64 x held)
 
 top_bit : (b : ℕ) → 9223372036854775808 ≤ b → 9223372036854775808 + (b - 9223372036854775808) ≡ b
 top_bit b h = omega arith
@@ -38,7 +37,7 @@ pub float_to_bits-b : goal.float_to_bits-b
 float_to_bits-b c = no_nan c.args.x c.if-x.false
 
 pub narrow_bits-requires : goal.narrow_bits-requires
-narrow_bits-requires c = let w = within c in omega arith
+narrow_bits-requires c = let w = within c.args.x (held c.args.x c.well_formed.0.1) c.if-x.false in omega arith
 
 pub float_from_bits-result : goal.float_from_bits-result
 float_from_bits-result c = no_nan_bits binary32 c.narrow_bits.result (omega (arith, c.narrow_bits.ensures.low))
@@ -49,10 +48,10 @@ returns-then-b-lt9223372036854775808 c =
     ap (of_bits binary32) (sym (zero-add c.narrow_bits.result))
     ∙ c.narrow_bits.ensures.is false
     ∙ ap (λ (b : ℕ). narrow_of (of_bits binary64 b)) (zero-add (to_bits binary64 x))
-    ∙ ap narrow_of (of_bits-to_bits binary64 x (held c))
+    ∙ ap narrow_of (of_bits-to_bits binary64 x (held x c.well_formed.0.1))
 
 pub narrow_bits-requires-2 : goal.narrow_bits-requires-2
-narrow_bits-requires-2 c = let w = within c in omega arith
+narrow_bits-requires-2 c = let w = within c.args.x (held c.args.x c.well_formed.0.1) c.if-x.false in omega arith
 
 pub float_from_bits-result-2 : goal.float_from_bits-result-2
 float_from_bits-result-2 c = no_nan_bits binary32 (2147483648 + c.narrow_bits-2.result) (omega (arith, c.narrow_bits-2.ensures.low))
@@ -62,4 +61,4 @@ returns c =
     let x = c.args.x in
     c.narrow_bits-2.ensures.is true
     ∙ ap (λ (b : ℕ). narrow_of (of_bits binary64 b)) (top_bit (to_bits binary64 x) c.if-b-lt9223372036854775808.false)
-    ∙ ap narrow_of (of_bits-to_bits binary64 x (held c))
+    ∙ ap narrow_of (of_bits-to_bits binary64 x (held x c.well_formed.0.1))

@@ -1,28 +1,23 @@
 -- `ieee::narrow_bits` meets its contract: each way out is a law of `specs/Narrowing.antt`.
 -- Assumes nothing.
-use mathlib.Core.Path.{sym, ap, ◌∙◌, subst}
-use Prim.Native.Nat.{ℕ, ◌+◌, ◌-◌, ◌*◌, ◌/◌, ◌%◌, ◌<◌}
+use Rattle.std.specs.Prelude.{◌^◌}
+use mathlib.Core.Path.{◌≡◌, sym, ap, ◌∙◌, subst}
+use Prim.Native.Nat.{ℕ, ◌+◌, ◌-◌, ◌*◌, ◌/◌, ◌%◌, ◌<◌, ◌≤◌}
 use native.Mathlib.Omega.{arith}
 use lib.Pow.{pow_pos, pow-lt}
 use lib.Ieee.Nearest.{closest}
 use Rattle.ieee.specs.Inner.{Narrowed}
 use Rattle.ieee.specs.Narrowing.{narrow_zero, narrow_over, narrow_sub, narrow_normal}
-use Rattle.ieee.proofs.narrow_bits.Tie as tie
 use Rattle.ieee.proofs.narrow_bits.Goals as goal
 
-sub_way : (c : tie.After-closest-q) → Narrowed c.args.b c.closest-q.result
-sub_way c =
-    let b = c.args.b in
-    subst (λ (q : ℕ). Narrowed b q)
-    (sym (c.closest-q.ensures ∙ ap (λ (p : ℕ). closest (b % 4503599627370496 + 4503599627370496) p) c.power.ensures))
-    (narrow_sub b (omega (arith, c.if-e-lt873.false)) c.if-e-lt897.true)
+sub_way : (b q p : ℕ) → q ≡ closest (b % 4503599627370496 + 4503599627370496) p → p ≡ 2 ^ (926 - b / 4503599627370496)
+    → 872 < b / 4503599627370496 → b / 4503599627370496 < 897 → Narrowed b q
+sub_way b q p e f low high =
+    subst (λ (q : ℕ). Narrowed b q) (sym (e ∙ ap (λ (p : ℕ). closest (b % 4503599627370496 + 4503599627370496) p) f)) (narrow_sub b low high)
 
-normal_way : (c : tie.After-closest_29-q)
-    → (let b = c.args.b in Narrowed b ((b / 4503599627370496 - 897) * 8388608 + c.closest_29-q.result))
-normal_way c =
-    let b = c.args.b in
-    subst (λ (q : ℕ). Narrowed b ((b / 4503599627370496 - 897) * 8388608 + q)) (sym c.closest_29-q.ensures)
-    (narrow_normal b c.if-e-lt897.false c.if-e-gt1150.false)
+normal_way : (b q : ℕ) → q ≡ closest (b % 4503599627370496 + 4503599627370496) 536870912
+    → 897 ≤ b / 4503599627370496 → b / 4503599627370496 ≤ 1150 → Narrowed b ((b / 4503599627370496 - 897) * 8388608 + q)
+normal_way b q e low high = subst (λ (q : ℕ). Narrowed b ((b / 4503599627370496 - 897) * 8388608 + q)) (sym e) (narrow_normal b low high)
 
 pub returns-then-e-lt873 : goal.returns-then-e-lt873
 returns-then-e-lt873 c = narrow_zero c.args.b c.if-e-lt873.true
@@ -37,16 +32,16 @@ closest-q-requires c =
     (subst (λ (x : ℕ). 0 < x) (sym e) (pow_pos d), subst (λ (x : ℕ). x < 9223372036854775808) (sym e) (pow-lt {j = 63} (omega arith)), omega arith)
 
 pub overflow_cast-result : goal.overflow_cast-result
-overflow_cast-result c = record { fits = omega (arith, (sub_way c).low) }
+overflow_cast-result c = record { fits = omega (arith, (sub_way _ _ _ c.closest-q.ensures c.power.ensures (omega (arith, c.if-e-lt873.false)) c.if-e-lt897.true).low) }
 
 pub returns-then-e-lt897 : goal.returns-then-e-lt897
-returns-then-e-lt897 c = sub_way c
+returns-then-e-lt897 c = sub_way _ _ _ c.closest-q.ensures c.power.ensures (omega (arith, c.if-e-lt873.false)) c.if-e-lt897.true
 
 pub overflow_add-r : goal.overflow_add-r
-overflow_add-r c = record { fits = omega (arith, (normal_way c).low) }
+overflow_add-r c = record { fits = omega (arith, (normal_way c.args.b _ c.closest_29-q.ensures c.if-e-lt897.false c.if-e-gt1150.false).low) }
 
 pub overflow_cast-result-2 : goal.overflow_cast-result-2
-overflow_cast-result-2 c = record { fits = omega (arith, (normal_way c).low) }
+overflow_cast-result-2 c = record { fits = omega (arith, (normal_way c.args.b _ c.closest_29-q.ensures c.if-e-lt897.false c.if-e-gt1150.false).low) }
 
 pub returns : goal.returns
-returns c = normal_way c
+returns c = normal_way _ _ c.closest_29-q.ensures c.if-e-lt897.false c.if-e-gt1150.false

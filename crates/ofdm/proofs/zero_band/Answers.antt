@@ -3,11 +3,7 @@
 use Prim.Native.Nat.{ℕ}
 use mathlib.Core.Path.{sym}
 use lib.ListN.{length-replicate, get_or-replicate}
-use Rattle.ofdm.proofs.zero_band.Statement.{statement}
-use Rattle.ofdm.proofs.zero_band.Tie as tie
+use Rattle.ofdm.proofs.zero_band.Goals as goal
 
-returns : tie.Need-returns
+pub returns : goal.returns
 returns c = record { size = sym (length-replicate {A = ℕ} 5617 0); zeros = λ i h. get_or-replicate {A = ℕ} 5617 i 0 1 h }
-
-pub zero_band_spec : {M : Type 1} → statement M
-zero_band_spec = tie.close (tie.spec returns)
