@@ -12,10 +12,8 @@ use Rattle.lists.specs.Select.{length_up_to, up_to_get_or}
 use Rattle.lists.specs.Fill.{fill_again}
 use Rattle.tables.specs.Places.{Listed}
 use Rattle.std.proofs.Common.{rules}
+use Rattle.tables.proofs.copied.Invariants.{entry}
 use Rattle.tables.proofs.copied.Goals as goal
-
-abbrev entry : List ℕ → ℕ → ℕ
-entry row i = get_or row i 0
 
 -- all of the row is copied, and behind it stand the zeros that are left of twenty
 rest : (n m : ℕ) → drop {A = ℕ} n (replicate m 0) ≡ replicate (m - n) 0

@@ -13,6 +13,9 @@ use Rattle.lists.specs.Fill.{fill_again}
 use Rattle.tables.specs.Places.{Listed}
 use Rattle.tables.proofs.copied.Given as goal
 
+abbrev pub entry : List ℕ → ℕ → ℕ
+entry row i = get_or row i 0
+
 abbrev pub invariant-loop-i : goal.invariant-loop-i
 invariant-loop-i l =
     (l.i ≤ length l.row) × (length l.row ≤ 20) × (length l.places ≡ 20) × (l.places ≡ up_to (entry l.row) l.i ++ drop l.i (replicate 20 0))

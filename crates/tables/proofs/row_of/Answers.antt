@@ -18,8 +18,8 @@ overflow_add-start c = omega (arith, inside c.args.count c.args.row c.requires.0
 pub offset_bounds-table-start : goal.offset_bounds-table-start
 offset_bounds-table-start c = omega (arith, inside c.args.count c.args.row c.requires.0)
 
-pub LEFT-slice-bounds-copied-end : goal.LEFT-slice-bounds-copied-end
-LEFT-slice-bounds-copied-end c = omega (arith, inside c.args.count c.args.row c.requires.0)
+pub slice_bounds-copied-end : goal.slice_bounds-copied-end
+slice_bounds-copied-end c = omega (arith, inside c.args.count c.args.row c.requires.0)
 
 pub returns : goal.returns
 returns c =
