@@ -1,5 +1,7 @@
 // Complex numbers: pairs of floats by value, with num-complex's names and order of operations, each
 // rounded once. C32 and C64 have the same operations; specs/ defines them once, for any format.
+#![tactic(auto)]
+
 ghost use Rattle.std.specs.Prelude.{◌≡◌};
 ghost use Rattle.std.specs.Float.{binary32, binary64};
 ghost use Rattle.complex.specs.Complex.{pair, of32, of64, product, conjugate, plus, minus, squared_size, scaled, divided, norm32, norm64};

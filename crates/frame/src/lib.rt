@@ -5,6 +5,8 @@
 // Carriers of a segment are counted from its lowest frequency, 0 to c - 1; those of the band from
 // carrier 0 of segment 11, the lowest place, up to the edge carrier above segment 12.
 // Kinds come in segment-number order. A refusal is a number and leaves the lent buffer untouched.
+#![tactic(auto)]
+
 ghost use Rattle.std.specs.Prelude.{◌≡◌, ◌<◌, length, get_or};
 ghost use Rattle.lists.specs.Lists.{up_to};
 ghost use Rattle.params.specs.Params.{mode_from, total_carriers, kind_from};

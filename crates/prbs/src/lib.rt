@@ -1,5 +1,7 @@
 // The pilots' signs, after frame.rs of isdb-rs (ARIB STD-B31, 3.13.1): the register of Figure 3-31,
 // loaded afresh for each segment, and the sign W of each carrier of the band.
+#![tactic(auto)]
+
 ghost use Rattle.std.specs.Prelude.{◌≡◌, ◌<◌, length};
 ghost use Rattle.lists.specs.Lists.{up_to};
 ghost use Rattle.params.specs.Params.{mode_from, carriers_per_segment, total_carriers};

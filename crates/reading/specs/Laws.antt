@@ -3,9 +3,8 @@
 use Rattle.std.specs.Prelude.{ℕ, ◌≤◌, Bool, true, false, cond, ◌≡◌, refl, T, eqb, ℤ, pos, negsuc, nat_abs}
 use Rattle.std.proofs.Common.{ap, subst, arith, ltb-true, ne_eqb}
 use Rattle.std.specs.Int.Signed.{lt_z, non_neg}
-use Rattle.libc.specs.Io.{Moved}
 use Rattle.reading.specs.declared.Input.TheVariants.{More, Ended, Failed}
-use Rattle.reading.specs.Read.{read_told}
+use Rattle.reading.specs.Read.{read_told, Moved}
 
 pub told_failed : (z : ℤ) → lt_z z (pos 0) ≡ true → Failed ≡ read_told z
 unfolding read_told

@@ -1,5 +1,7 @@
 // The square root of an f64: the nearest f64, and that narrowed to the nearest f32, both for every bit
 // pattern. specs/ defines the root, and has its laws: that no other f64 is nearer, and what a gain does.
+#![tactic(auto)]
+
 mod seeds;
 
 ghost use Rattle.std.specs.Prelude.{◌≡◌, true, ◌+◌, ◌*◌, ◌^◌, ◌≤◌, ◌<◌};

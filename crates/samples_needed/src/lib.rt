@@ -1,5 +1,7 @@
 // Samples needed (acquire.rs of isdb-rs, `samples_needed`): how many samples a guard search must have to
 // try every mode and guard of two lists of codes. What the search itself asks of these codes is here too.
+#![tactic(auto)]
+
 ghost use Rattle.std.specs.Prelude.{◌≡◌, map};
 ghost use Rattle.lists.specs.Tests.{all_in};
 ghost use Rattle.samples_needed.specs.Samples.{fft_of, needed_by, greatest, SamplesTold};

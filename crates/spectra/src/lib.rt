@@ -1,4 +1,6 @@
 // Spectra as they are lent: one behind another in a flat slice, real and imaginary part in turn.
+#![tactic(auto)]
+
 ghost use Rattle.std.specs.Prelude.{◌≡◌, ◌+◌, ◌*◌, ◌<◌, length};
 ghost use Rattle.complex.specs.Complex.{of32};
 ghost use Rattle.spectra.specs.Spectra.{pair_at, with_pair, spectra_code};

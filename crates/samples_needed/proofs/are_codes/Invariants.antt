@@ -1,10 +1,8 @@
 -- `samples_needed::are_codes` meets its contract: the rest of the list decides the test.
 -- Assumes nothing.
 use Prim.Native.Nat.{◌-◌}
-use mathlib.Core.Path.{sym, ◌∙◌}
-use borrow.Author.Tests.{not-true, not-false}
 use lib.ListN.{length}
-use Rattle.lists.specs.Tests.{Walked, walk_begins, walk_stops, walk_goes_on, walk_ends}
+use Rattle.lists.specs.Tests.{Walked}
 use Rattle.samples_needed.specs.Inner.{is_code}
 use Rattle.samples_needed.proofs.are_codes.Given as goal
 

@@ -1,17 +1,10 @@
 -- `samples_needed::mode_needs` meets its contract: what was needed most so far is the greatest of the guards passed.
 -- Assumes nothing.
-use Prim.Native.Nat.{ℕ, ◌-◌, ◌≤◌}
-use mathlib.Core.Path.{◌≡◌, refl, sym, ap, ◌∙◌}
-use mathlib.Core.Logic.{⊎_elim}
-use mathlib.Core.List.{List, map}
-use native.Mathlib.Omega.{arith}
-use lib.Seq.{take_all}
-use lib.ListN.{length, take, get_or}
-use Rattle.lists.specs.Tests.{all_in_at}
-use Rattle.samples_needed.specs.Samples.{is_guard, needed_by, greatest}
-use Rattle.samples_needed.specs.Sizes.{some, Bounded, bounded}
-use Rattle.samples_needed.proofs.Most.{larger_up, larger_stays, step_map}
-use Rattle.samples_needed.proofs.Answers.{needed}
+use Prim.Native.Nat.{◌-◌, ◌≤◌}
+use mathlib.Core.Path.{◌≡◌}
+use mathlib.Core.List.{map}
+use lib.ListN.{length, take}
+use Rattle.samples_needed.specs.Samples.{needed_by, greatest}
 use Rattle.samples_needed.proofs.mode_needs.Given as goal
 
 abbrev pub invariant-loop-i : goal.invariant-loop-i
