@@ -1,5 +1,7 @@
 // The value that a pilot is sent with, after frame.rs of isdb-rs (ARIB STD-B31, Tables 3-17 and 3-19).
 // Its sign is prbs's.
+#![tactic(auto)]
+
 ghost use Rattle.std.specs.Prelude.{◌≡◌};
 ghost use Rattle.complex.specs.Complex.{of32};
 ghost use Rattle.pilots.specs.Pilots.{pilot_value};
