@@ -1,5 +1,7 @@
 // How many carriers of a segment have each role. Its mode and kind decide it: neither the row of the
 // tables nor the phase changes a count.
+#![tactic(auto)]
+
 ghost use Rattle.std.specs.Prelude.{◌≡◌, ◌≤◌};
 ghost use Rattle.role_counts.specs.Counts.{kind_counts};
 ghost use Rattle.role_counts.specs.Counts.{units as Counts·units};

@@ -1,5 +1,7 @@
 // The winner of four counts of votes (acquire.rs of isdb-rs, `detect_sp_phase`): the phase with the most, its
 // share of the votes, and its lead over the largest count of the other three.
+#![tactic(auto)]
+
 ghost use Rattle.std.specs.Prelude.{◌≡◌};
 ghost use Rattle.winner.specs.Winner.{share_of, next_to, lead_of};
 ghost use Rattle.winner.specs.Inner.{Won, Few};

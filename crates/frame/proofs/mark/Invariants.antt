@@ -8,7 +8,8 @@ use Rattle.frame.proofs.mark.Given as goal
 
 abbrev pub invariant-loop-i : goal.invariant-loop-i
 invariant-loop-i l =
-    (l.i ≤ l.n) × (length l.out ≡ length l.initial.out) × (marked_at (take l.n l.places) l.role l.initial.out ≡ marked_at (drop l.i (take l.n l.places)) l.role l.out)
+    (l.i ≤ l.n) × (length l.out ≡ length l.initial.out)
+    × (marked_at (take l.n l.places) l.role l.initial.out ≡ marked_at (drop l.i (take l.n l.places)) l.role l.out)
 
 abbrev pub decreases-loop-i : goal.decreases-loop-i
 decreases-loop-i l = l.n - l.i
