@@ -1,6 +1,8 @@
 // What IEEE 754 arithmetic needs beyond Rattle's operators: an f64 narrowed to the nearest f32, for
 // every bit pattern, and named constants. specs/ has the laws of floats that signal processing leans
 // on: signs and zeros, order, and gain by a power of two. The square root is `root`'s.
+#![tactic(auto)]
+
 ghost use Rattle.std.specs.Prelude.{◌≡◌, ◌^◌, ◌≤◌, ◌<◌};
 ghost use Rattle.std.specs.Float.Ieee.Nearest as Nearest;
 ghost use Rattle.ieee.specs.Narrow.{narrow_of};

@@ -1,6 +1,6 @@
 -- Lists that definitions are made of: a function's values in order, parts one behind another, the numbers that pass a test.
 -- Definitions only.
-use Rattle.std.specs.Prelude.{ℕ, zero, suc, ◌+◌, ◌<◌, Bool, cond, List, [], ◌∷◌, ◌++◌, length, get_or}
+use Rattle.std.specs.Prelude.{ℕ, zero, suc, ◌<◌, Bool, cond, List, [], ◌∷◌, ◌++◌, length, get_or}
 
 -- f at 0, 1, .. n - 1
 abbrev pub up_to : {A : Type 0} → (ℕ → A) → ℕ → List A

@@ -1,6 +1,8 @@
 // Carriers, places and FFT bins, after ofdm.rs of isdb-rs. A carrier's number in the band, its
 // place in its segment, a segment's number, its place in the band and an FFT bin each count
 // something else, so each has a type; what leads from one to another is a function here.
+#![tactic(auto)]
+
 ghost use Rattle.std.specs.Prelude.{◌≡◌, ◌<◌, ◌≤◌, ◌+◌, ◌*◌, ◌%◌};
 ghost use Rattle.params.specs.Params.{mode_from, carriers_per_segment, total_carriers};
 ghost use Rattle.ofdm.specs.Band.{segment_at, place_of, first_carrier, carrier_at, Placed, bin_of, ZeroBand, BinLookedUp};

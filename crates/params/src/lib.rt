@@ -2,6 +2,8 @@
 // with their codes, and the sizes that follow from a mode (ARIB STD-B31, Tables 3-1 and 3-2).
 //
 // A code from outside becomes an enum once, at the border; behind it a wrong code cannot occur.
+#![tactic(auto)]
+
 ghost use Rattle.std.specs.Prelude.{◌≡◌};
 ghost use Rattle.params.specs.Params.{mode_number, mode_from, guard_from, kind_code, kind_from};
 ghost use Rattle.params.specs.Params.{carriers_per_segment, data_carriers_per_segment, total_carriers, fft_size};

@@ -2,6 +2,8 @@
 // of a segment (Tables 3-14 and 3-15), the sign register's first states (Table 3-16), carrier
 // randomizing (Table 3-13). The numbers are in standard.rt; specs/ holds them as definitions, with
 // their rules. A row is named by the segment number that the standard prints it for.
+#![tactic(auto)]
+
 mod standard;
 
 ghost use Rattle.std.specs.Prelude.{◌≡◌, ◌*◌, ◌<◌, ◌≤◌, length, get_or};

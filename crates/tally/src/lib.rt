@@ -1,4 +1,6 @@
 // A count of entries that were compared and of those that differ, which the replay programs keep.
+#![tactic(auto)]
+
 ghost use Rattle.std.specs.Prelude.{◌+◌, true, false, cond, ◌≡◌};
 ghost use Rattle.tally.specs.Tally.{capped, Counted};
 

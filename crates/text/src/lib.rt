@@ -1,5 +1,7 @@
 // Text stored in a buffer that the caller lends: each function takes the index to start at and gives
 // the index behind what it stored.
+#![tactic(auto)]
+
 ghost use Rattle.std.specs.Prelude.{[], ◌∷◌, ◌++◌, ◌<◌, ◌≤◌, ◌+◌, ◌/◌, length, take};
 ghost use Rattle.text.specs.Decimal.{decimal};
 ghost use Rattle.text.specs.Digits.{pair, few};

@@ -1,11 +1,11 @@
 -- `tables::copied` meets its contract: what is copied so far is the row's front, and behind it stand the zeros that were there.
 -- Assumes nothing.
-use Prim.Native.Nat.{ℕ, zero, suc, ◌-◌, ◌≤◌}
+use Prim.Native.Nat.{ℕ, zero, suc, ◌-◌}
 use mathlib.Core.List.{List, ◌++◌}
 use mathlib.Core.Path.{◌≡◌, refl, ap, ◌∙◌}
 use native.Mathlib.Numerals.{unary_clauses}
 use native.Mathlib.Omega.{arith}
-use lib.ListN.{length, get_or, take, drop, replicate, length-set}
+use lib.ListN.{length, take, drop, replicate, length-set}
 use lib.Seq.{take_at, drop_at}
 use Rattle.lists.specs.Lists.{up_to}
 use Rattle.lists.specs.Select.{length_up_to, up_to_get_or}

@@ -1,16 +1,10 @@
 -- `tables::copied` meets its contract: what is copied so far is the row's front, and behind it stand the zeros that were there.
 -- Assumes nothing.
-use Prim.Native.Nat.{ℕ, zero, suc, ◌-◌, ◌≤◌}
+use Prim.Native.Nat.{ℕ, ◌-◌, ◌≤◌}
 use mathlib.Core.List.{List, ◌++◌}
-use mathlib.Core.Path.{◌≡◌, refl, ap, ◌∙◌}
-use native.Mathlib.Numerals.{unary_clauses}
-use native.Mathlib.Omega.{arith}
-use lib.ListN.{length, get_or, take, drop, replicate, length-set}
-use lib.Seq.{take_at, drop_at}
+use mathlib.Core.Path.{◌≡◌}
+use lib.ListN.{length, get_or, drop, replicate}
 use Rattle.lists.specs.Lists.{up_to}
-use Rattle.lists.specs.Select.{length_up_to, up_to_get_or}
-use Rattle.lists.specs.Fill.{fill_again}
-use Rattle.tables.specs.Places.{Listed}
 use Rattle.tables.proofs.copied.Given as goal
 
 abbrev pub entry : List ℕ → ℕ → ℕ

@@ -8,4 +8,4 @@ pub returns : goal.returns
 returns c =
     let d = c.put_decimal-end.ensures in
     let e = c.put_byte.ensures in
- record { put = then d.put e; upper_bound = (omega (arith, d, e.next), omega (arith, d, e.next)) }
+    record { put = then d.put e; upper_bound = (omega (arith, d, e.next), omega (arith, d, e.next)) }

@@ -1,11 +1,8 @@
 -- `text::put_text` meets its contract: what is stored is the front of the text, a byte longer each turn.
 -- Assumes nothing.
-use Prim.Native.Nat.{◌+◌, ◌-◌, ◌≤◌}
-use mathlib.Core.Path.{◌≡◌, refl, sym}
+use mathlib.Core.Path.{refl, sym}
 use native.Mathlib.Omega.{arith}
-use lib.ListN.{length, take}
 use lib.Seq.{take_all}
-use Rattle.text.specs.Put.{Put}
 use Rattle.text.specs.Laws.{then, put_none, put_as}
 use Rattle.text.proofs.Numbered.{take_more}
 use Rattle.std.proofs.Common.{rules}
@@ -27,13 +24,12 @@ pub loop-i-smaller : goal.loop-i-smaller
 loop-i-smaller c = omega arith
 
 pub loop-i-preserved : goal.loop-i-preserved
-loop-i-preserved c =
-    (
-      omega arith,
-      omega arith,
-      omega (arith, c.put_byte-to.ensures.next),
-      put_as (take_more _ _ c.loop-i-test.true) (then c.loop-i.invariant.3 c.put_byte-to.ensures),
-    )
+loop-i-preserved c = (
+  omega arith,
+  omega arith,
+  omega (arith, c.put_byte-to.ensures.next),
+  put_as (take_more _ _ c.loop-i-test.true) (then c.loop-i.invariant.3 c.put_byte-to.ensures),
+)
 
 pub shape_of-out : goal.shape_of-out
 shape_of-out c = c.loop-i.invariant.1

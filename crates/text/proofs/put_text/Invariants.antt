@@ -1,13 +1,9 @@
 -- `text::put_text` meets its contract: what is stored is the front of the text, a byte longer each turn.
 -- Assumes nothing.
 use Prim.Native.Nat.{◌+◌, ◌-◌, ◌≤◌}
-use mathlib.Core.Path.{◌≡◌, refl, sym}
-use native.Mathlib.Omega.{arith}
+use mathlib.Core.Path.{◌≡◌}
 use lib.ListN.{length, take}
-use lib.Seq.{take_all}
 use Rattle.text.specs.Put.{Put}
-use Rattle.text.specs.Laws.{then, put_none, put_as}
-use Rattle.text.proofs.Numbered.{take_more}
 use Rattle.text.proofs.put_text.Given as goal
 
 abbrev pub invariant-loop-i : goal.invariant-loop-i

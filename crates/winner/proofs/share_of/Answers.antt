@@ -19,7 +19,15 @@ pub int_to_float-result : goal.int_to_float-result
 int_to_float-result c = whole_votes c.requires
 
 pub int_to_float-result-2 : goal.int_to_float-result-2
-int_to_float-result-2 c = whole_total c.requires (elim c.if-total-eq0.branch [ then-total-eq0 w ↦ spectra_then _ _ w.all-is w.if-total-eq0.true | else-total-eq0 w ↦ spectra_else _ _ w.all-is w.if-total-eq0.false ])
+int_to_float-result-2 c =
+    whole_total c.requires (elim c.if-total-eq0.branch [
+      | then-total-eq0 w ↦ spectra_then _ _ w.all-is w.if-total-eq0.true
+      | else-total-eq0 w ↦ spectra_else _ _ w.all-is w.if-total-eq0.false
+    ])
 
 pub returns : goal.returns
-returns c = share_by _ _ (elim c.if-total-eq0.branch [ then-total-eq0 w ↦ spectra_then _ _ w.all-is w.if-total-eq0.true | else-total-eq0 w ↦ spectra_else _ _ w.all-is w.if-total-eq0.false ])
+returns c =
+    share_by _ _ (elim c.if-total-eq0.branch [
+      | then-total-eq0 w ↦ spectra_then _ _ w.all-is w.if-total-eq0.true
+      | else-total-eq0 w ↦ spectra_else _ _ w.all-is w.if-total-eq0.false
+    ])
