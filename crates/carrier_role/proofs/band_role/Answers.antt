@@ -5,7 +5,6 @@ use mathlib.Core.List.{List}
 use mathlib.Core.Path.{◌≡◌, sym, ◌∙◌}
 use native.Mathlib.Omega.{arith}
 use borrow.Author.Tests.{eq-eqb, ne_eqb}
-use borrow.Author.Rules.{rules}
 use lib.ListN.{get_or}
 use Rattle.params.specs.declared.Mode.{Mode}
 use Rattle.params.specs.declared.SegmentKind.{SegmentKind}
@@ -17,8 +16,7 @@ use Rattle.frame.specs.declared.CarrierRole.{CarrierRole}
 use Rattle.frame.specs.declared.CarrierRole.TheVariants.{EdgeCp}
 use Rattle.frame.specs.Roles.{ofdm_segment, place_role, role_at, wide}
 use Rattle.frame.specs.OneRole.{segment_in_lem}
-use Rattle.carrier_role.proofs.band_role.Statement.{statement}
-use Rattle.carrier_role.proofs.band_role.Tie as tie
+use Rattle.carrier_role.proofs.band_role.Goals as goal
 
 module _ (mode : Mode) (kinds : List ℕ) (phase k edge : ℕ) (inside : k < total_carriers mode) (last : edge ≡ first_carrier mode 13) where
   at_edge : k ≡ edge → EdgeCp ≡ role_at mode phase (wide kinds) k
@@ -41,52 +39,19 @@ module _ (mode : Mode) (kinds : List ℕ) (phase k edge : ℕ) (inside : k < tot
     of_place place seg p kind r b s q t e =
         rw (ne_eqb k (first_carrier mode 13) not_last, segment_in_lem kinds (band_place mode k) place_below) (e ∙ rw (t, s, b, q))
 
-first-carrier-requires : tie.Need-first-carrier-requires
-first-carrier-requires c κs = search rules
+pub returns-then-k-edge : goal.returns-then-k-edge
+returns-then-k-edge c =
+    let a = c.args in
+    at_edge a.layout.mode a.layout.kinds a.phase a.k.0 _ c.requires c.first_carrier-edge.ensures c.if-k-edge.true
 
-returns : tie.Need-returns
+pub carrier_place-at-requires : goal.carrier_place-at-requires
+carrier_place-at-requires c =
+    let a = c.args in
+    below_edge a.layout.mode a.layout.kinds a.phase a.k.0 _ c.requires c.first_carrier-edge.ensures c.if-k-edge.false
+
+pub returns : goal.returns
 returns c =
-    let e = c.before.before.before in
-    let s = e.before in
-    let a = s.args in
-    at_edge a.layout.mode a.layout.kinds a.phase a.k.0 _ s.requires e.first-carrier.ensures c.if1.true
-
-carrier-place-requires : tie.Need-carrier-place-requires
-carrier-place-requires c κs =
-    let e = c.before.before.before in
-    let s = e.before in
-    let a = s.args in
-    below_edge a.layout.mode a.layout.kinds a.phase a.k.0 _ s.requires e.first-carrier.ensures c.if1.false
-
-segment-at-position-requires : tie.Need-segment-at-position-requires
-segment-at-position-requires c κs = search rules
-
-kind-requires : tie.Need-kind-requires
-kind-requires c κs = search rules
-
-place-role-requires : tie.Need-place-role-requires
-place-role-requires c κs = search rules
-
-returns-2 : tie.Need-returns-2
-returns-2 c =
-    let kind = c.before in
-    let seg = kind.before in
-    let at = seg.before.before.before in
-    let e = at.before.before.before.before in
-    let s = e.before in
-    let a = s.args in
-    of_place a.layout.mode a.layout.kinds a.phase a.k.0 _ s.requires e.first-carrier.ensures at.before.if1.false
-    _ _ _ _ _ at.carrier-place.ensures.place seg.segment-at-position.ensures.0 at.carrier-place.ensures.p kind.kind.ensures
-    c.place-role.ensures
-
-pub band_role_spec : {M : Type 1} → statement M
-band_role_spec =
-    tie.close
-    (tie.spec
-    first-carrier-requires
-    returns
-    carrier-place-requires
-    segment-at-position-requires
-    kind-requires
-    place-role-requires
-    returns-2)
+    let a = c.args in
+    of_place a.layout.mode a.layout.kinds a.phase a.k.0 _ c.requires c.first_carrier-edge.ensures c.if-k-edge.false
+    _ _ _ _ _ c.carrier_place-at.ensures.place c.segment_at_position-seg.ensures.0 c.carrier_place-at.ensures.p c.kind.ensures
+    c.place_role.ensures
