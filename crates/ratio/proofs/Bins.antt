@@ -3,7 +3,7 @@
 use Prim.Native.Nat.{ℕ, zero, suc, ◌+◌, ◌-◌, ◌*◌, ◌/◌, ◌≤◌, ◌<◌}
 use mathlib.Core.List.{List}
 use mathlib.Core.Path.{◌≡◌, sym, ap, ◌∙◌, subst}
-use borrow.Author.Tests.{eq-eqb, ne_eqb}
+use borrow.Author.Tests.{ne_eqb}
 use native.Mathlib.Omega.{arith}
 use native.Mathlib.Nat.{lt_irrefl, zero-lt-suc, div-zero, le_trans, le-add_left, mul-suc, mul_assoc, mul-div-le, le-div_iff_mul-le}
 use lib.Ieee.{Float}

@@ -1,19 +1,19 @@
 -- Sums of products, term by term: one more, several more, and all of them are a bin's.
 -- Assumes nothing.
-use Prim.Native.Nat.{ℕ, suc, ◌+◌, ◌-◌, ◌*◌, ◌<◌}
-use mathlib.Core.List.{List, [], ◌∷◌, map}
+use Prim.Native.Nat.{ℕ, suc, ◌+◌, ◌*◌, ◌<◌}
+use mathlib.Core.List.{List, [], ◌∷◌}
 use mathlib.Core.Path.{◌≡◌, refl, sym, ap, ◌∙◌}
 use native.Mathlib.Decide.{dec_lt}
 use native.Mathlib.Nat.{zero-add}
 use native.Mathlib.Numerals.{add-one}
 use native.Mathlib.Omega.{arith}
 use lib.Ieee.{Float, nan, binary32, add}
-use lib.ListN.{get_or, length, set, length-set}
+use lib.ListN.{get_or, length, set}
 use lib.Seq.{ext_get_or, get_or-set_same, get_or-set_other}
 use Rattle.ieee.specs.Sums.{total, total_append}
 use Rattle.lists.specs.Lists.{up_to}
 use Rattle.lists.specs.Select.{length_up_to, get_or_up_to, up_to_same, up_to_add, map_up_to}
-use Rattle.complex.specs.Complex.{Pair, pair, of32, product, conjugate, plus}
+use Rattle.complex.specs.Complex.{Pair, pair, product, conjugate, plus}
 use Rattle.complex.specs.Totals.{totals, totals_append}
 use Rattle.spectra.specs.Spectra.{pair_at, with_pair, column}
 use Rattle.spectra.specs.ChangedBins.{length_bin}

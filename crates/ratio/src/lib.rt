@@ -1,6 +1,8 @@
 // The ratio of each bin over spectra (acquire.rs of isdb-rs, `continual_metric`), and of one bin from its
 // pairs alone. A bin is finished over all spectra before the next is taken: the pairs of some bins are
 // copied so that each bin's lie one behind another, and each ratio is that of one bin's pairs.
+#![tactic(auto)]
+
 ghost use Rattle.std.specs.Prelude.{◌≡◌, ◌+◌, ◌*◌, ◌<◌, ◌≤◌, length};
 ghost use Rattle.std.proofs.lemmas.List.Edits.{sets};
 ghost use Rattle.lists.specs.Lists.{up_to};

@@ -1,36 +1,58 @@
 // What the replay programs share: they read stored answers from standard input, part by part,
 // compare each entry with what the port answers, and print how many were compared and how many
 // differ.
+#![tactic(auto)]
+
 ghost use Rattle.std.specs.Prelude.{◌+◌, ◌-◌, ◌*◌, ◌<◌, ◌≤◌, ◌≡◌, length, get_or};
 ghost use Rattle.std.specs.Float.{nan};
 ghost use Rattle.replay.specs.Answers.{number_at, word_at, long_at, number_of, bits32, bits64, place_of, owed_at, Holds, Compared};
 
-use libc::{STDIN_FILENO, STDOUT_FILENO};
+use std::io;
+use std::io::{Read, Stdin, Stdout, Write};
 use tally::Tally;
 
-fn print_count(n: u64, words: &[u8]) {
-    io::print_decimal(STDOUT_FILENO, n);
-    io::write_all(STDOUT_FILENO, words);
+// Prints a number, and words behind it.
+pub fn print_count(out: Stdout, n: u64, words: &[u8]) -> io::Result<()> {
+    let mut out = out;
+    write!(out, "{n}")?;
+    out.write_all(words)
 }
 
 // Prints a line, as `first states 39 compared, 0 differ`; the name ends in a space.
-pub fn print_tally(name: &[u8], tally: Tally) {
-    io::write_all(STDOUT_FILENO, name);
-    print_count(tally.compared, b" compared, ");
-    print_count(tally.differ, b" differ\n");
+pub fn print_tally(out: Stdout, name: &[u8], tally: Tally) -> io::Result<()> {
+    let mut line = out;
+    line.write_all(name)?;
+    print_count(out, tally.compared, b" compared, ")?;
+    print_count(out, tally.differ, b" differ\n")
 }
 
 // Prints the last line, as `0 differences`.
-pub fn print_differences(n: u64) {
-    print_count(n, b" differences\n");
+pub fn print_differences(out: Stdout, n: u64) -> io::Result<()> {
+    print_count(out, n, b" differences\n")
+}
+
+// Reads until buf is full, the input ends or a read fails: how many bytes stand at the start of buf.
+fn read_full(input: Stdin, buf: &mut [u8]) -> usize
+    ensures { result ≤ length buf.new }
+{
+    let mut input = input;
+    let mut done: usize = 0;
+    while done < buf.len() {
+        match input.read(&mut buf[done..]) {
+            Ok(0) => return done,
+            Ok(n) => done += n,
+            Err(_) => return done,
+        }
+    }
+    done
 }
 
 // Reads the next n bytes of the input to the start of room: whether they were there and found room.
-pub fn read_part(room: &mut [u8], n: usize) -> bool {
+pub fn read_part(input: Stdin, room: &mut [u8], n: usize) -> bool {
     if room.len() < n {
         return false;
     }
-    io::read_full(STDIN_FILENO, &mut room[0..n]) == n
+    read_full(input, &mut room[0..n]) == n
 }
 
 // What stands where something may begin: all of it, nothing at all, or only a piece of it.
@@ -42,8 +64,8 @@ pub enum Head {
 }
 
 // Fills room with the next bytes of the input.
-pub fn read_head(room: &mut [u8]) -> Head {
-    let n = io::read_full(STDIN_FILENO, room);
+pub fn read_head(input: Stdin, room: &mut [u8]) -> Head {
+    let n = read_full(input, room);
     if n == room.len() {
         return Head::Whole;
     }
@@ -75,9 +97,9 @@ pub enum Stored {
 }
 
 // Reads a number of one byte.
-pub fn read_byte() -> Stored {
+pub fn read_byte(input: Stdin) -> Stored {
     let mut room = [0u8; 1];
-    if !read_part(&mut room, 1) {
+    if !read_part(input, &mut room, 1) {
         return Stored::Cut;
     }
     Stored::Number(wide(room[0]))
@@ -264,11 +286,11 @@ fn kept_of(written: usize, alike: u8) -> usize {
 }
 
 // Reads what a stored answer owes of `len` entries, and the stored ones to the start of room.
-fn read_owed(room: &mut [u8], len: usize, size: u8, before: u64) -> Owed
+fn read_owed(input: Stdin, room: &mut [u8], len: usize, size: u8, before: u64) -> Owed
     ensures { result.kept ≤ 8192 }
 {
     let mut head = [0u8; 3];
-    if !read_part(&mut head, 3) {
+    if !read_part(input, &mut head, 3) {
         return nothing_owed();
     }
     let written = number_at(&head, 0) as usize;
@@ -279,7 +301,7 @@ fn read_owed(room: &mut [u8], len: usize, size: u8, before: u64) -> Owed
     if 8192 < kept {
         return nothing_owed();
     }
-    if !read_part(room, bytes_of(size, kept)) {
+    if !read_part(input, room, bytes_of(size, kept)) {
         return nothing_owed();
     }
     Owed {
@@ -292,48 +314,48 @@ fn read_owed(room: &mut [u8], len: usize, size: u8, before: u64) -> Owed
 }
 
 // Reads a stored answer of a list, and compares each entry with it.
-pub fn check_bytes(got: &[u8], tally: Tally) -> Tally {
+pub fn check_bytes(input: Stdin, got: &[u8], tally: Tally) -> Tally {
     if tally.cut {
         return tally;
     }
-    let mut room = io::large_buffer();
-    let owed = read_owed(&mut room, got.len(), 1, HELD);
+    let mut room = [0u8; 65536];
+    let owed = read_owed(input, &mut room, got.len(), 1, HELD);
     if owed.cut {
         return tally.ended();
     }
     compare_bytes(got, &room, owed, tally)
 }
 
-pub fn check_words(got: &[u32], tally: Tally) -> Tally {
+pub fn check_words(input: Stdin, got: &[u32], tally: Tally) -> Tally {
     if tally.cut {
         return tally;
     }
-    let mut room = io::large_buffer();
-    let owed = read_owed(&mut room, got.len(), 4, HELD);
+    let mut room = [0u8; 65536];
+    let owed = read_owed(input, &mut room, got.len(), 4, HELD);
     if owed.cut {
         return tally.ended();
     }
     compare_words(got, &room, owed, tally)
 }
 
-pub fn check_floats(got: &[f32], tally: Tally) -> Tally {
+pub fn check_floats(input: Stdin, got: &[f32], tally: Tally) -> Tally {
     if tally.cut {
         return tally;
     }
-    let mut room = io::large_buffer();
-    let owed = read_owed(&mut room, got.len(), 4, HELD_32);
+    let mut room = [0u8; 65536];
+    let owed = read_owed(input, &mut room, got.len(), 4, HELD_32);
     if owed.cut {
         return tally.ended();
     }
     compare_floats(got, &room, owed, tally)
 }
 
-pub fn check_doubles(got: &[f64], tally: Tally) -> Tally {
+pub fn check_doubles(input: Stdin, got: &[f64], tally: Tally) -> Tally {
     if tally.cut {
         return tally;
     }
-    let mut room = io::large_buffer();
-    let owed = read_owed(&mut room, got.len(), 8, HELD_64);
+    let mut room = [0u8; 65536];
+    let owed = read_owed(input, &mut room, got.len(), 8, HELD_64);
     if owed.cut {
         return tally.ended();
     }
@@ -341,9 +363,9 @@ pub fn check_doubles(got: &[f64], tally: Tally) -> Tally {
 }
 
 // Reads a stored answer of a single number: what it must be.
-fn read_number(size: u8, before: u64) -> Stored {
-    let mut room = io::large_buffer();
-    let owed = read_owed(&mut room, 1, size, before);
+fn read_number(input: Stdin, size: u8, before: u64) -> Stored {
+    let mut room = [0u8; 65536];
+    let owed = read_owed(input, &mut room, 1, size, before);
     if owed.cut {
         return Stored::Cut;
     }
@@ -351,44 +373,44 @@ fn read_number(size: u8, before: u64) -> Stored {
 }
 
 // Compares the bits of a single number with its stored answer.
-fn check_number(got: u64, size: u8, before: u64, tally: Tally) -> Tally {
+fn check_number(input: Stdin, got: u64, size: u8, before: u64, tally: Tally) -> Tally {
     if tally.cut {
         return tally;
     }
-    let Stored::Number(number) = read_number(size, before) else {
+    let Stored::Number(number) = read_number(input, size, before) else {
         return tally.ended();
     };
     tally.entry(got == number)
 }
 
-pub fn check_byte(got: u8, tally: Tally) -> Tally {
-    check_number(wide(got), 1, HELD, tally)
+pub fn check_byte(input: Stdin, got: u8, tally: Tally) -> Tally {
+    check_number(input, wide(got), 1, HELD, tally)
 }
 
-pub fn check_size(got: usize, tally: Tally) -> Tally {
-    check_number(got as u64, 4, HELD, tally)
+pub fn check_size(input: Stdin, got: usize, tally: Tally) -> Tally {
+    check_number(input, got as u64, 4, HELD, tally)
 }
 
-pub fn check_word(got: u32, tally: Tally) -> Tally {
-    check_number(wide_word(got), 4, HELD, tally)
+pub fn check_word(input: Stdin, got: u32, tally: Tally) -> Tally {
+    check_number(input, wide_word(got), 4, HELD, tally)
 }
 
-pub fn check_signed(got: i64, tally: Tally) -> Tally {
+pub fn check_signed(input: Stdin, got: i64, tally: Tally) -> Tally {
     if tally.cut {
         return tally;
     }
-    let Stored::Number(number) = read_number(8, HELD) else {
+    let Stored::Number(number) = read_number(input, 8, HELD) else {
         return tally.ended();
     };
     tally.entry(got == signed_of(number))
 }
 
-pub fn check_float(got: f32, tally: Tally) -> Tally {
-    check_number(bits_32(got), 4, HELD_32, tally)
+pub fn check_float(input: Stdin, got: f32, tally: Tally) -> Tally {
+    check_number(input, bits_32(got), 4, HELD_32, tally)
 }
 
-pub fn check_double(got: f64, tally: Tally) -> Tally {
-    check_number(bits_64(got), 8, HELD_64, tally)
+pub fn check_double(input: Stdin, got: f64, tally: Tally) -> Tally {
+    check_number(input, bits_64(got), 8, HELD_64, tally)
 }
 
 // The number with a sign that has given bits.
@@ -444,7 +466,7 @@ fn stored_room() -> [u8; 89872]
 }
 
 // Reads n floats of one byte or four bytes each: whether they were there and found room.
-pub fn read_floats(out: &mut [f32], size: u8, n: usize) -> bool {
+pub fn read_floats(input: Stdin, out: &mut [f32], size: u8, n: usize) -> bool {
     if out.len() < n {
         return false;
     }
@@ -452,7 +474,7 @@ pub fn read_floats(out: &mut [f32], size: u8, n: usize) -> bool {
         return false;
     }
     let mut room = stored_room();
-    if !read_part(&mut room, bytes_of(size, n)) {
+    if !read_part(input, &mut room, bytes_of(size, n)) {
         return false;
     }
     put_floats(&room, size, n, out);
@@ -464,12 +486,12 @@ fn longs_of(bytes: &[u8; 16]) -> Longs {
 }
 
 // Reads n numbers of eight bytes, which are at most two.
-pub fn read_longs(n: usize) -> Longs {
+pub fn read_longs(input: Stdin, n: usize) -> Longs {
     if 2 < n {
         return Longs::Cut;
     }
     let mut room = [0u8; 16];
-    if !read_part(&mut room, 8 * n) {
+    if !read_part(input, &mut room, 8 * n) {
         return Longs::Cut;
     }
     longs_of(&room)

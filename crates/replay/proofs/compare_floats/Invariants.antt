@@ -1,0 +1,13 @@
+-- `replay::compare_floats` meets its contract: entry by entry.
+-- Assumes nothing.
+use Prim.Native.Nat.{◌-◌, ◌≤◌}
+use lib.Ieee.{nan}
+use lib.ListN.{length, get_or}
+use Rattle.replay.specs.Answers.{bits32, Compared}
+use Rattle.replay.proofs.compare_floats.Given as goal
+
+abbrev pub invariant-loop-i : goal.invariant-loop-i
+invariant-loop-i l = (l.i ≤ length l.got) × Compared (λ k. bits32 (get_or l.got k nan)) l.stored l.owed l.i l.initial.t l.t
+
+abbrev pub decreases-loop-i : goal.decreases-loop-i
+decreases-loop-i l = length l.got - l.i
