@@ -17,7 +17,7 @@ fn main() {
         println!("cargo::rustc-link-lib=static=host");
     } else {
         println!(
-            "cargo::error={} is missing: run `rt staticlib host` in the repository, \
+            "cargo::error={} is missing: run `dev/built host_c` in the repository, \
              or set SILLURWY_LIB_DIR to the directory that holds libhost.a",
             library.display()
         );

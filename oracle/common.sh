@@ -2,32 +2,20 @@
 
 oracle=$(cd "$(dirname "${BASH_SOURCE[0]}")" && pwd)
 root=$(cd "$oracle/.." && pwd)
-library=$root/target/staticlib/libhost.a
 programs=$root/target/oracle
 
 say() {
     echo "oracle: $*" >&2
 }
 
-# True if the file is missing, or older than crates.txt or any file under crates/.
-stale() {
-    [ ! -e "$1" ] || [ -n "$(find "$root/crates" "$root/crates.txt" -type f -newer "$1" -print -quit)" ]
-}
-
 # The static library of the proved operations. SILLURWY_LIB_DIR names another one.
 need_library() {
-    if [ -z "${SILLURWY_LIB_DIR:-}" ] && stale "$library"; then
-        say "proving and building the library: rt staticlib host"
-        (cd "$root" && rt staticlib host) >&2
-    fi
+    [ -n "${SILLURWY_LIB_DIR:-}" ] || "$root/dev/built" host_c
 }
 
 # A proved program, in target/bin.
 need_program() {
-    if stale "$root/target/bin/$1"; then
-        say "proving and building the program: rt check $1"
-        (cd "$root" && rt check "$1") >&2
-    fi
+    "$root/dev/built" "$1"
 }
 
 # The proved program segments. SILLURWY_SEGMENTS names another one.

@@ -1,5 +1,5 @@
 //! The C functions for safe Rust, here and in the oracle.
-//! dev/declare writes them from crates/host/src/lib.rt: change that and run it.
+//! dev/declare writes them from crates/host_c/src/lib.rt: change that and run it.
 
 #![allow(clippy::too_many_arguments)]
 

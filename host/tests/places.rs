@@ -1,12 +1,13 @@
 //! Every function of the C library has its places (docs/ADDING.md). Its declarations in C and in Rust
-//! are written by `dev/declare`, which must see where they differ from what `crates/host` defines.
+//! are written by `dev/declare`, which must see where they differ from what `crates/host_c` defines.
 
 use std::collections::BTreeSet;
 use std::fs;
 use std::path::{Path, PathBuf};
 use std::process::{Command, Output};
 
-const DEFINED: &str = "crates/host/src/lib.rt";
+const DEFINED: &str = "crates/host_c/src/lib.rt";
+const CALLED: &str = "crates/host/src/lib.rt";
 const HEADER: &str = "include/sillurwy.h";
 const FFI: &str = "host/src/ffi.rs";
 
@@ -29,7 +30,7 @@ fn text_at(name: &str) -> String {
     }
 }
 
-/// The functions that `crates/host` defines, without their prefix.
+/// The functions that `crates/host_c` defines, without their prefix.
 fn defined() -> BTreeSet<String> {
     let text = read(DEFINED);
     let parts = text.split("pub extern \"C\" fn sillurwy_").skip(1);
@@ -119,7 +120,7 @@ struct Copies {
 impl Copies {
     /// Copies of what `dev/declare` reads and writes.
     fn with(case: &str, changed: &str, from: &str, to: &str) -> Copies {
-        Copies::of(&[DEFINED, HEADER, FFI], case, changed, from, to)
+        Copies::of(&[DEFINED, CALLED, HEADER, FFI], case, changed, from, to)
     }
 
     fn of(files: &[&str], case: &str, changed: &str, from: &str, to: &str) -> Copies {
@@ -201,6 +202,18 @@ fn a_declaration_that_differs_is_seen_and_written_again() {
     }
     let to = "sillurwy_root(x: f64, y: &mut [u8])";
     must_see("argument", DEFINED, "sillurwy_root(x: f64)", to, FFI);
+}
+
+#[test]
+fn a_clause_that_differs_is_seen() {
+    let said = "does not say of each function";
+    for (case, from, to) in [
+        ("clause", "result ≡ root_of x", "result ≡ narrow_of x"),
+        ("second words", "// The f32 nearest to x.", "// Nearest to x."),
+        ("parameter", "sillurwy_root(x: f64)", "sillurwy_root(y: f64)"),
+    ] {
+        must_see(case, CALLED, from, to, said);
+    }
 }
 
 #[test]

@@ -57,7 +57,8 @@ module _ (mode : Mode) (phase : ℕ) (kinds : List ℕ) where
       let edge = role_byte EdgeCp ∷ [] in
       ap (λ (z : List ℕ). take (carriers_per_segment mode) (drop (first_carrier mode (place_of seg)) (z ++ edge)))
       (joined_map (segment_roles mode phase) (wide_segment kinds) order)
-      ∙ (part_of of_segment_lem (carriers_per_segment mode) (λ s. segment_length mode phase (wide_segment kinds s)) order edge (place_of seg) (place_below seg h)
+      ∙ (part_of of_segment_lem (carriers_per_segment mode) (λ s. segment_length mode phase (wide_segment kinds s))
+      order edge (place_of seg) (place_below seg h)
       ∙ ap of_segment_lem (segment_of_place seg h))
 
   pub same_data : joined (data_in mode roles) (range 13) ≡ data_list mode phase kinds

@@ -1,6 +1,8 @@
 // Lists of carriers that receivers walk: the data list of frame.rs's FrameLayout, and the continual
 // list of rx/mod.rs (isdb-rs). Both are made from the band's roles: the data list in one walk, the
 // continual list in one that counts and one for each of its three groups.
+#![tactic(auto)]
+
 ghost use Rattle.std.specs.Prelude.{◌≡◌, ◌<◌, ◌≤◌, ◌*◌, length};
 ghost use Rattle.lists.specs.Lists.{range, joined, chosen};
 ghost use Rattle.params.specs.Params.{mode_from, data_carriers_per_segment};

@@ -1,6 +1,8 @@
 // The role of one carrier of the band, from the tables of its own segment, without building a map
 // (document 02, ask 3). The role map of the crate frame has the role of every carrier; this is one
 // byte of it, for whoever looks up single carriers.
+#![tactic(auto)]
+
 ghost use Rattle.std.specs.Prelude.{◌≡◌, ◌<◌};
 ghost use Rattle.lists.specs.Tests.{memb};
 ghost use Rattle.params.specs.Params.{mode_from, total_carriers};

@@ -1,6 +1,6 @@
 -- The counts of each role in a segment are those of its mode and kind, as antt computes over every row of the tables and every phase.
 -- Assumes nothing.
-use Rattle.std.specs.Prelude.{ℕ, zero, suc, ◌+◌, ◌*◌, ◌-◌, ◌≤◌, ◌<◌, Bool, true, false, cond, List, [], ◌∷◌, ◌++◌, ◌≡◌, refl, eqb, length}
+use Rattle.std.specs.Prelude.{ℕ, zero, suc, ◌+◌, ◌*◌, ◌≤◌, ◌<◌, Bool, true, false, cond, List, [], ◌∷◌, ◌++◌, ◌≡◌, refl, eqb, length}
 use Rattle.std.proofs.Common.{sym, ◌∙◌, arith, eqb-true, lit≤}
 use Rattle.lists.specs.Lists.{up_to, select}
 use Rattle.lists.specs.Select.{length_up_to}

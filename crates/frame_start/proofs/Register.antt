@@ -1,9 +1,9 @@
 -- The register of the last sixteen bits, carried from value to value: a word stands where the register holds its number, and nowhere else.
 -- Assumes nothing.
-use Prim.Native.Nat.{ℕ, suc, ◌+◌, ◌*◌, ◌%◌, ◌≤◌, ◌<◌}
+use Prim.Native.Nat.{ℕ, ◌+◌, ◌*◌, ◌%◌, ◌≤◌, ◌<◌}
 use mathlib.Core.List.{List, [], ◌∷◌, map}
 use mathlib.Core.Logic.{◌⊎◌, inl, inr}
-use mathlib.Core.Path.{◌≡◌, refl, sym, ap, ◌∙◌}
+use mathlib.Core.Path.{◌≡◌, sym, ap, ◌∙◌}
 use native.Mathlib.Omega.{arith}
 use native.Mathlib.Nat.{le_of_suc-le-suc, eq-or-lt_of_le}
 use native.Mathlib.Numerals.{add-one}
@@ -17,7 +17,7 @@ use Rattle.frame_start.specs.Facts.{word_length, start_inside}
 use Rattle.frame_start.specs.declared.SyncWord.{SyncWord}
 use Rattle.frame_start.specs.declared.SyncWord.TheVariants.{W0, W1}
 use Rattle.frame_start.specs.declared.FrameStart.TheVariants.{Start, NoStart}
-use Rattle.frame_start.proofs.Bits.{behind_append, behind_front, behind_below, SameBits, same_bits}
+use Rattle.frame_start.proofs.Bits.{behind_append, behind_front, behind_below, same_bits}
 use Rattle.frame_start.proofs.Bits.{bit_below, read_bits, word_bits_lem, take_bits, drop_bits}
 
 pub shifted_fits : (bits b : ℕ) (v : Float) → b ≡ bit_of v → shifted_in bits b < 65536

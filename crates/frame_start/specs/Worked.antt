@@ -1,7 +1,7 @@
 -- The definition at a few lists, so that a reader sees it work: either word spelt by values of -1.0 and 1.0; unusual values; a list with two
 -- starts, of which either may be told; and values that have none until one more is added.
 -- Assumes nothing.
-use Rattle.std.specs.Prelude.{ℕ, ◌-◌, cond, List, [], ◌∷◌, ◌++◌, map, ◌≡◌, refl, eqb, Float, take}
+use Rattle.std.specs.Prelude.{ℕ, cond, List, [], ◌∷◌, ◌++◌, map, ◌≡◌, refl, eqb, Float, take}
 use Rattle.std.proofs.Common.{lit<}
 use Rattle.std.specs.Float.{binary32}
 use Rattle.std.specs.Float.Ieee.{lt, of_bits}

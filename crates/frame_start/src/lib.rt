@@ -1,5 +1,7 @@
 // The start of a frame (rx/mod.rs of isdb-rs, `step_acquire`): a place in a list of soft TMCC values at
 // which sixteen of them spell one of the two synchronising words of ARIB STD-B31.
+#![tactic(auto)]
+
 ghost use Rattle.std.specs.Prelude.{◌≡◌};
 ghost use Rattle.frame_start.specs.FrameStart.{word_code, bit_of, StartTold};
 ghost use Rattle.frame_start.specs.Inner.{shifted_in, register};
@@ -64,6 +66,7 @@ fn first_bits(soft: &[f32]) -> u16
 
 // A start at which one of the words stands. Each value is read once: the last sixteen bits are carried
 // along from start to start.
+#[tactic(auto, using(crate::proofs::Register::word_found))]
 pub fn frame_start(soft: &[f32]) -> FrameStart
     ensures { StartTold soft.now result }
 {

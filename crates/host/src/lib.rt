@@ -1,7 +1,6 @@
-// The C library: a thin function for each operation, so that a host can call it. Numbers pass as
-// themselves, a slice as a pointer and a length, and an answer through `&mut` numbers. Each returns
-// 0 or the refusal's number, and a refusal leaves everything lent as it was. The float functions at
-// the end refuse nothing and return their value.
+// The functions of the C library, which crates/host_c hands to C: a thin one for each operation. An
+// answer is given through `&mut` numbers. Each returns 0 or the refusal's number, and a refusal leaves
+// everything lent as it was. The float functions at the end refuse nothing and return their value.
 ghost use Rattle.std.specs.Prelude.{◌≡◌, length};
 ghost use Rattle.params.specs.Params.{mode_from};
 ghost use Rattle.root.specs.Root.{root_of};
@@ -35,8 +34,7 @@ use shift::ShiftAnswer;
 use tmcc::SoftTmcc;
 
 // The FFT bin of carrier k.
-#[unsafe(no_mangle)]
-pub extern "C" fn sillurwy_carrier_bin(mode: u8, k: usize, bin: &mut usize) -> u8
+pub fn sillurwy_carrier_bin(mode: u8, k: usize, bin: &mut usize) -> u8
     ensures { CarrierBin (mode_from mode) k bin.old result bin.new }
 {
     match ofdm::bin_lookup(mode, BandCarrier(k)) {
@@ -49,22 +47,14 @@ pub extern "C" fn sillurwy_carrier_bin(mode: u8, k: usize, bin: &mut usize) -> u
 }
 
 // The role byte of each carrier of the band.
-#[unsafe(no_mangle)]
-pub extern "C" fn sillurwy_role_map(mode: u8, phase: u8, kinds: &[u8], out: &mut [u8]) -> u8
+pub fn sillurwy_role_map(mode: u8, phase: u8, kinds: &[u8], out: &mut [u8]) -> u8
     ensures { RoleMap (mode_from mode) phase kinds.now out.old result out.new }
 {
     frame::role_map(mode, phase, kinds, out)
 }
 
 // The role byte of one carrier of the band.
-#[unsafe(no_mangle)]
-pub extern "C" fn sillurwy_carrier_role(
-    mode: u8,
-    phase: u8,
-    kinds: &[u8],
-    k: usize,
-    role: &mut u8,
-) -> u8
+pub fn sillurwy_carrier_role(mode: u8, phase: u8, kinds: &[u8], k: usize, role: &mut u8) -> u8
     ensures { RoleLent (role_answer (mode_from mode) phase kinds.now k) role.old result role.new }
 {
     match carrier_role::carrier_role(mode, phase, kinds, BandCarrier(k)) {
@@ -77,29 +67,21 @@ pub extern "C" fn sillurwy_carrier_role(
 }
 
 // The pilot sign of each carrier of the band.
-#[unsafe(no_mangle)]
-pub extern "C" fn sillurwy_sign_map(mode: u8, out: &mut [u8]) -> u8
+pub fn sillurwy_sign_map(mode: u8, out: &mut [u8]) -> u8
     ensures { SignMap (mode_from mode) out.old result out.new }
 {
     prbs::sign_map(mode, out)
 }
 
 // The data carriers of the band, in segment-number order.
-#[unsafe(no_mangle)]
-pub extern "C" fn sillurwy_data_list(mode: u8, phase: u8, kinds: &[u8], out: &mut [u32]) -> u8
+pub fn sillurwy_data_list(mode: u8, phase: u8, kinds: &[u8], out: &mut [u32]) -> u8
     ensures { DataList (mode_from mode) phase kinds.now out.old result out.new }
 {
     carrier_lists::data_list(mode, phase, kinds, out)
 }
 
 // The continual carriers of the band, and how many there are.
-#[unsafe(no_mangle)]
-pub extern "C" fn sillurwy_continual_list(
-    mode: u8,
-    kinds: &[u8],
-    out: &mut [u32],
-    count: &mut usize,
-) -> u8
+pub fn sillurwy_continual_list(mode: u8, kinds: &[u8], out: &mut [u32], count: &mut usize) -> u8
     ensures { ContinualCount (mode_from mode) kinds.now out.old count.old result
         out.new count.new }
 {
@@ -113,8 +95,7 @@ pub extern "C" fn sillurwy_continual_list(
 }
 
 // Samples that the guard search needs for at least `symbols` symbols.
-#[unsafe(no_mangle)]
-pub extern "C" fn sillurwy_samples_needed(
+pub fn sillurwy_samples_needed(
     modes: &[u8],
     guards: &[u8],
     symbols: usize,
@@ -134,8 +115,7 @@ pub extern "C" fn sillurwy_samples_needed(
 
 // The guard search: whether something is found, then the guess. Where nothing is found, what was lent
 // for the guess stays as it was.
-#[unsafe(no_mangle)]
-pub extern "C" fn sillurwy_detect_mode(
+pub fn sillurwy_detect_mode(
     samples: &[f32],
     modes: &[u8],
     guards: &[u8],
@@ -172,8 +152,7 @@ pub extern "C" fn sillurwy_detect_mode(
 }
 
 // The soft value of the TMCC carriers between two spectra.
-#[unsafe(no_mangle)]
-pub extern "C" fn sillurwy_tmcc_soft(
+pub fn sillurwy_tmcc_soft(
     mode: u8,
     kinds: &[u8],
     spectra: &[f32],
@@ -193,8 +172,7 @@ pub extern "C" fn sillurwy_tmcc_soft(
 }
 
 // The ratio of one bin, from its pairs in symbol order.
-#[unsafe(no_mangle)]
-pub extern "C" fn sillurwy_bin_ratio(pairs: &[f32], ratio: &mut f32) -> u8
+pub fn sillurwy_bin_ratio(pairs: &[f32], ratio: &mut f32) -> u8
     ensures { BinRatioLent (bin_ratio_answer pairs.now) ratio.old result ratio.new }
 {
     match ratio::bin_ratio(pairs) {
@@ -207,8 +185,7 @@ pub extern "C" fn sillurwy_bin_ratio(pairs: &[f32], ratio: &mut f32) -> u8
 }
 
 // The shift of spectra, and its score; their ratios stay in `ratios`.
-#[unsafe(no_mangle)]
-pub extern "C" fn sillurwy_integer_cfo(
+pub fn sillurwy_integer_cfo(
     mode: u8,
     spectra: &[f32],
     bound: usize,
@@ -231,8 +208,7 @@ pub extern "C" fn sillurwy_integer_cfo(
 }
 
 // The kinds of the thirteen segments and their scores, by segment number; the ratios stay in `ratios`.
-#[unsafe(no_mangle)]
-pub extern "C" fn sillurwy_detect_kinds(
+pub fn sillurwy_detect_kinds(
     mode: u8,
     spectra: &[f32],
     ratios: &mut [f32],
@@ -256,8 +232,7 @@ pub extern "C" fn sillurwy_detect_kinds(
 
 // The pilot phase: whether there are scattered pilots, then the phase and its share; the four counts and
 // the lead. Without scattered pilots, what was lent for phase and share stays as it was.
-#[unsafe(no_mangle)]
-pub extern "C" fn sillurwy_detect_sp_phase(
+pub fn sillurwy_detect_sp_phase(
     mode: u8,
     kinds: &[u8],
     spectra: &[f32],
@@ -294,13 +269,7 @@ pub extern "C" fn sillurwy_detect_sp_phase(
 // A start at which soft TMCC values spell a synchronising word: whether there is one, then the start and
 // the word's code. Where there is none, what was lent for start and word stays as it was. Nothing is
 // refused.
-#[unsafe(no_mangle)]
-pub extern "C" fn sillurwy_frame_start(
-    soft: &[f32],
-    found: &mut u8,
-    start: &mut usize,
-    word: &mut u8,
-) -> u8
+pub fn sillurwy_frame_start(soft: &[f32], found: &mut u8, start: &mut usize, word: &mut u8) -> u8
     ensures { StartLent soft.now start.old word.old result
         found.new start.new word.new }
 {
@@ -315,8 +284,7 @@ pub extern "C" fn sillurwy_frame_start(
 }
 
 // The channel at the points of the grid.
-#[unsafe(no_mangle)]
-pub extern "C" fn sillurwy_estimate_grid(
+pub fn sillurwy_estimate_grid(
     mode: u8,
     phase: u8,
     kinds: &[u8],
@@ -333,40 +301,35 @@ pub extern "C" fn sillurwy_estimate_grid(
 }
 
 // The f64 nearest to the root of x.
-#[unsafe(no_mangle)]
-pub extern "C" fn sillurwy_root(x: f64) -> f64
+pub fn sillurwy_root(x: f64) -> f64
     ensures { result ≡ root_of x }
 {
     root::root(x)
 }
 
 // The f32 nearest to x.
-#[unsafe(no_mangle)]
-pub extern "C" fn sillurwy_narrow(x: f64) -> f32
+pub fn sillurwy_narrow(x: f64) -> f32
     ensures { result ≡ narrow_of x }
 {
     ieee::narrow(x)
 }
 
 // The norm of an f32 pair.
-#[unsafe(no_mangle)]
-pub extern "C" fn sillurwy_norm32(re: f32, im: f32) -> f32
+pub fn sillurwy_norm32(re: f32, im: f32) -> f32
     ensures { result ≡ norm32 (pair re im) }
 {
     C32::new(re, im).norm()
 }
 
 // The norm of an f64 pair.
-#[unsafe(no_mangle)]
-pub extern "C" fn sillurwy_norm64(re: f64, im: f64) -> f64
+pub fn sillurwy_norm64(re: f64, im: f64) -> f64
     ensures { result ≡ norm64 (pair re im) }
 {
     C64::new(re, im).norm()
 }
 
 // The angle of the pair (re, im), in 1/65536 of a turn.
-#[unsafe(no_mangle)]
-pub extern "C" fn sillurwy_angle(re: f64, im: f64) -> i32
+pub fn sillurwy_angle(re: f64, im: f64) -> i32
     ensures { result ≡ angle_of (pair re im) }
 {
     angle::angle(C64::new(re, im))
@@ -374,8 +337,7 @@ pub extern "C" fn sillurwy_angle(re: f64, im: f64) -> i32
 
 // The fractional carrier offset that the summed correlation (re, im) of a guess tells, in carrier
 // spacings.
-#[unsafe(no_mangle)]
-pub extern "C" fn sillurwy_cfo_frac(re: f64, im: f64) -> f64
+pub fn sillurwy_cfo_frac(re: f64, im: f64) -> f64
     ensures { result ≡ cfo_frac (pair re im) }
 {
     cfo_frac::cfo_frac(C64::new(re, im))

@@ -1,5 +1,7 @@
 // The head of a stored record (oracle/README.md, "The stored answers", has the form): the call that it
 // asks for, and room for what that call is lent. The parts of the replayer share this.
+#![tactic(auto)]
+
 ghost use Rattle.std.specs.Prelude.{◌<◌, ◌≡◌, length};
 
 use tally::Tally;

@@ -1,11 +1,15 @@
 // Replays the stored tables of the standard: compares every entry of the carrier tables, every first
 // state of the sign register and every entry of the randomizing tables with what the port has. Input
 // that ends early counts as a difference and ends the run; so does a row of more than 20 entries.
+#![tactic(auto)]
+
 ghost use Rattle.std.specs.Prelude.{◌*◌, ◌<◌, ◌≤◌, length};
 ghost use Rattle.params.specs.Params.{data_carriers_per_segment};
 
 use params::{Mode, SegmentKind};
 use replay::Stored;
+use std::io;
+use std::io::Stdin;
 use tables::Positions;
 use tally::Tally;
 
@@ -41,11 +45,11 @@ fn compare_row(row: Positions, n: usize, stored: &[u8], tally: Tally) -> Tally
 }
 
 // The count of a row is stored in front of its places.
-fn check_row(row: Positions, tally: Tally) -> Tally {
+fn check_row(input: Stdin, row: Positions, tally: Tally) -> Tally {
     if tally.cut {
         return tally;
     }
-    let Stored::Number(count) = replay::read_byte() else {
+    let Stored::Number(count) = replay::read_byte(input) else {
         return tally.ended();
     };
     let n = count as usize;
@@ -53,33 +57,33 @@ fn check_row(row: Positions, tally: Tally) -> Tally {
         return tally.ended();
     }
     let mut room = [0u8; 40];
-    if !replay::read_part(&mut room, 2 * n) {
+    if !replay::read_part(input, &mut room, 2 * n) {
         return tally.ended();
     }
     compare_row(row, n, &room, tally.expect(n == row.count))
 }
 
-fn check_rows(table: u8, mode: Mode, tally: Tally) -> Tally {
+fn check_rows(input: Stdin, table: u8, mode: Mode, tally: Tally) -> Tally {
     let mut t = tally;
     let mut seg: usize = 0;
     while seg < 13 {
-        t = check_row(row_of(table, mode, seg), t);
+        t = check_row(input, row_of(table, mode, seg), t);
         seg += 1;
     }
     t
 }
 
-fn check_table(table: u8, tally: Tally) -> Tally {
-    let one = check_rows(table, Mode::M1, tally);
-    let two = check_rows(table, Mode::M2, one);
-    check_rows(table, Mode::M3, two)
+fn check_table(input: Stdin, table: u8, tally: Tally) -> Tally {
+    let one = check_rows(input, table, Mode::M1, tally);
+    let two = check_rows(input, table, Mode::M2, one);
+    check_rows(input, table, Mode::M3, two)
 }
 
-fn check_tables(tally: Tally) -> Tally {
+fn check_tables(input: Stdin, tally: Tally) -> Tally {
     let mut t = tally;
     let mut table: u8 = 0;
     while table < 5 {
-        t = check_table(table, t);
+        t = check_table(input, table, t);
         table += 1;
     }
     t
@@ -98,12 +102,12 @@ fn compare_states(mode: Mode, stored: &[u8], tally: Tally) -> Tally
     t
 }
 
-fn check_states(mode: Mode, tally: Tally) -> Tally {
+fn check_states(input: Stdin, mode: Mode, tally: Tally) -> Tally {
     if tally.cut {
         return tally;
     }
     let mut room = [0u8; 26];
-    if !replay::read_part(&mut room, 26) {
+    if !replay::read_part(input, &mut room, 26) {
         return tally.ended();
     }
     compare_states(mode, &room, tally)
@@ -129,50 +133,52 @@ fn compare_randomizing(mode: Mode, n: usize, stored: &[u8], tally: Tally) -> Tal
     t
 }
 
-fn check_randomizing(mode: Mode, tally: Tally) -> Tally {
+fn check_randomizing(input: Stdin, mode: Mode, tally: Tally) -> Tally {
     if tally.cut {
         return tally;
     }
     let n = data_size(mode);
     let mut room = [0u8; 768];
-    if !replay::read_part(&mut room, 2 * n) {
+    if !replay::read_part(input, &mut room, 2 * n) {
         return tally.ended();
     }
     compare_randomizing(mode, n, &room, tally)
 }
 
 // Whether the input has nothing more.
-fn at_end() -> bool {
-    match replay::read_byte() {
+fn at_end(input: Stdin) -> bool {
+    match replay::read_byte(input) {
         Stored::Number(_) => false,
         Stored::Cut => true,
     }
 }
 
-fn check_all_states(tally: Tally) -> Tally {
-    let one = check_states(Mode::M1, tally);
-    let two = check_states(Mode::M2, one);
-    check_states(Mode::M3, two)
+fn check_all_states(input: Stdin, tally: Tally) -> Tally {
+    let one = check_states(input, Mode::M1, tally);
+    let two = check_states(input, Mode::M2, one);
+    check_states(input, Mode::M3, two)
 }
 
 // Behind the last table the input must end.
-fn check_all_randomizing(tally: Tally) -> Tally {
-    let one = check_randomizing(Mode::M1, tally);
-    let two = check_randomizing(Mode::M2, one);
-    let three = check_randomizing(Mode::M3, two);
+fn check_all_randomizing(input: Stdin, tally: Tally) -> Tally {
+    let one = check_randomizing(input, Mode::M1, tally);
+    let two = check_randomizing(input, Mode::M2, one);
+    let three = check_randomizing(input, Mode::M3, two);
     if three.cut {
         return three;
     }
-    three.expect(at_end())
+    three.expect(at_end(input))
 }
 
-fn main() {
-    let entries = check_tables(Tally::new());
-    let states = check_all_states(Tally::new().after(entries));
-    let randomizing = check_all_randomizing(Tally::new().after(states));
-    replay::print_tally(b"table entries ", entries);
-    replay::print_tally(b"first states ", states);
-    replay::print_tally(b"randomizing entries ", randomizing);
+fn main(rt: HostRuntime) -> io::Result<()> {
+    let input = rt.stdin();
+    let out = rt.stdout();
+    let entries = check_tables(input, Tally::new());
+    let states = check_all_states(input, Tally::new().after(entries));
+    let randomizing = check_all_randomizing(input, Tally::new().after(states));
+    replay::print_tally(out, b"table entries ", entries)?;
+    replay::print_tally(out, b"first states ", states)?;
+    replay::print_tally(out, b"randomizing entries ", randomizing)?;
     let all = entries.with(states).with(randomizing);
-    replay::print_differences(all.differ);
+    replay::print_differences(out, all.differ)
 }

@@ -1,0 +1,10 @@
+-- `replay_tables::check_rows` is safe and ends: the segment stays below 13.
+-- Assumes nothing.
+use Prim.Native.Nat.{◌-◌, ◌≤◌}
+use Rattle.replay_tables.proofs.check_rows.Given as goal
+
+abbrev pub invariant-loop-seg : goal.invariant-loop-seg
+invariant-loop-seg l = l.seg ≤ 13
+
+abbrev pub decreases-loop-seg : goal.decreases-loop-seg
+decreases-loop-seg l = 13 - l.seg

@@ -1,0 +1,10 @@
+-- `replay_tables::compare_randomizing` is safe and ends: there are two bytes to an entry, and the index stays below n.
+-- Assumes nothing.
+use Prim.Native.Nat.{◌-◌, ◌≤◌}
+use Rattle.replay_tables.proofs.compare_randomizing.Given as goal
+
+abbrev pub invariant-loop-i : goal.invariant-loop-i
+invariant-loop-i l = l.i ≤ l.n
+
+abbrev pub decreases-loop-i : goal.decreases-loop-i
+decreases-loop-i l = l.n - l.i
