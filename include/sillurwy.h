@@ -1,5 +1,5 @@
 /* Sillurwy: carrier layout and acquisition for ISDB-T captures. The C functions of libhost.a, which
- * `rt staticlib host` writes to target/staticlib/. For C99 and later and C++11 and later, on x86-64.
+ * dev/built host_c writes to target/staticlib/. For C99 and later and C++11 and later, on x86-64.
  *
  * Each operation returns 0 (SILLURWY_ACCEPTED) or the number of its refusal. Refusals are listed in
  * their order: where several are true, the first is given. A refusal leaves everything lent as it

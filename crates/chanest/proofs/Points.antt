@@ -16,7 +16,7 @@ use Rattle.prbs.specs.Buffered.{signs_length}
 use Rattle.pilot_times.specs.declared.Window.{Window}
 use Rattle.pilot_times.specs.declared.Offsets.{Offsets}
 use Rattle.pilot_times.specs.declared.Times.{Times}
-use Rattle.pilot_times.specs.Window.{in_window_lem}
+use Rattle.pilot_times.specs.Window.{in_window}
 use Rattle.pilot_times.specs.Inner.{spectra_of, TimesOf}
 use Rattle.pilot_line.specs.Estimate.{inverse_of, estimate_of}
 use Rattle.chanest.specs.Grid.{carrier_of, segment_points, estimate_at}
@@ -31,7 +31,7 @@ estimated win times xs signs i at e = e ∙ rw at
 
 -- the estimate at carrier k of a window, whose pilot is sent at the offsets o
 abbrev pub window_at : Window → List Float → List ℕ → BandCarrier → Offsets → Pair
-window_at win xs signs k o = estimate_of win xs k (inverse_of (get_or signs k.0 0)) (in_window_lem win o)
+window_at win xs signs k o = estimate_of win xs k (inverse_of (get_or signs k.0 0)) (in_window win o)
 
 -- a point of the band; of a segment that ends within it, where c is the code's count of the segment's carriers
 module _ (mode : Mode) where

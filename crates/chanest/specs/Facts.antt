@@ -29,7 +29,7 @@ use Rattle.frame.specs.OneRole.{segment_in_lem, map_says}
 use Rattle.pilot_times.specs.declared.Current.{Current}
 use Rattle.pilot_times.specs.declared.Window.{Window}
 use Rattle.pilot_times.specs.declared.Offsets.{Offsets}
-use Rattle.pilot_times.specs.Window.{at_least_one, scattered_offsets, in_window_lem, phase_in}
+use Rattle.pilot_times.specs.Window.{at_least_one, scattered_offsets, in_window, phase_in}
 use Rattle.pilot_times.specs.Reaching.{in_window_lem}
 use Rattle.pilot_line.specs.Line.{line_at_zero}
 use Rattle.pilot_line.specs.Estimate.{carrier_in, points_in, estimate_of}
@@ -134,7 +134,7 @@ window_of_0 Unknown kinds xs phase index old = refl
 window_of_0 (Known m) kinds xs phase index old = refl
 
 -- where no spectrum of the window has a carrier's pilot, the carrier is taken as the current spectrum has it, sign and all
-pub raw_taken : (m : Mode) (xs : List Float) (current : Current) (k : BandCarrier) (o : Offsets) → in_window_lem (window_of m xs current) o ≡ []
+pub raw_taken : (m : Mode) (xs : List Float) (current : Current) (k : BandCarrier) (o : Offsets) → in_window (window_of m xs current) o ≡ []
     → estimate_at m xs current k o ≡ carrier_in (window_of m xs current) xs k current.index
 unfolding estimate_at estimate_of points_in line_at_zero
 raw_taken m xs current k o e = rw e
@@ -191,10 +191,10 @@ module _ (m : Mode) (kinds : List ℕ) (i : ℕ) where
       let kind : segment.kind ≡ Coherent = rw (both_right (ltb (i / segment_points m) 13) _ s) in
       segment_byte (i % 4) (inside m i within) ∙ ap role_byte (sp_role m segment (i % 4) _ kind (in_phase m i))
 
-  -- and so it is one in every spectrum s that its estimate, `scattered_at`, reads: in each that `in_window_lem` gives for its offsets, s being a symbol
+  -- and so it is one in every spectrum s that its estimate, `scattered_at`, reads: in each that `in_window` gives for its offsets, s being a symbol
   -- of its own phase
   pub scattered_sent : is_scattered m kinds i ≡ true → (win : Window) → win.current.phase < 4
-      → (s : ℕ) → Memᴰ s (in_window_lem win (scattered_offsets win.current (back_of win.current i)))
+      → (s : ℕ) → Memᴰ s (in_window win (scattered_offsets win.current (back_of win.current i)))
       → get_or (band_roles m (phase_in win.current s) (wide kinds)) (carrier_of i).0 0 ≡ role_byte Sp
   scattered_sent c win h s l =
       let r = in_window_lem win _ s l in

@@ -17,7 +17,7 @@ use Rattle.frame.specs.Operations.{are_kinds}
 use Rattle.pilot_times.specs.declared.Current.{Current}
 use Rattle.pilot_times.specs.declared.Window.{Window}
 use Rattle.pilot_times.specs.declared.Offsets.{Offsets}
-use Rattle.pilot_times.specs.Window.{at_least_one, scattered_offsets, continual_offsets, in_window_lem}
+use Rattle.pilot_times.specs.Window.{at_least_one, scattered_offsets, continual_offsets, in_window}
 use Rattle.pilot_line.specs.Estimate.{inverse_of, estimate_of}
 
 -- ---- where the points lie: point i is carrier 3 i
@@ -55,7 +55,7 @@ window_of mode xs current = record { len = total_carriers mode; count = spectra_
 unfoldable pub estimate_at : Mode → List Float → Current → BandCarrier → Offsets → Pair
 estimate_at mode xs current k o =
     let win = window_of mode xs current in
-    estimate_of win xs k (inverse_of (get_or (band_signs mode) k.0 0)) (in_window_lem win o)
+    estimate_of win xs k (inverse_of (get_or (band_signs mode) k.0 0)) (in_window win o)
 
 -- point i by its scattered pilots, and by its continual pilot
 abbrev pub scattered_at : Mode → List Float → Current → ℕ → Pair

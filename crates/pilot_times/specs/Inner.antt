@@ -8,7 +8,7 @@ use Rattle.pilot_times.specs.declared.Offsets.{Offsets}
 use Rattle.pilot_times.specs.declared.Sent.{Sent}
 use Rattle.pilot_times.specs.declared.Times.{Times}
 use Rattle.pilot_times.specs.declared.Scattered.{Scattered}
-use Rattle.pilot_times.specs.Window.{scattered_offsets, continual_offsets, in_window_lem, offset_of, mean, spread}
+use Rattle.pilot_times.specs.Window.{scattered_offsets, continual_offsets, in_window, offset_of, mean, spread}
 
 -- ---- the spectra in which a carrier's pilot is sent
 abbrev pub spectrum_of : Sent → ℕ → ℕ
@@ -50,7 +50,7 @@ pub record Skipped (t : ℕ) (o : Offsets) (s : ℕ) : Type 0 where
   pub near : o.step * s ≤ o.before + o.step
 
 pub record Reached (win : Window) (o : Offsets) (s : Sent) : Type 0 where
-  pub spectra : spectra_of s ≡ in_window_lem win o
+  pub spectra : spectra_of s ≡ in_window win o
   pub inside : Inside win.count s
 
 -- ---- their offsets from the current spectrum

@@ -13,7 +13,7 @@ use Rattle.lists.specs.Lists.{up_to, joined}
 use Rattle.lists.specs.Fill.{joined_append}
 use Rattle.pilot_times.specs.declared.Window.{Window}
 use Rattle.pilot_times.specs.declared.Offsets.{Offsets}
-use Rattle.pilot_times.specs.Window.{at_offset, in_window_lem}
+use Rattle.pilot_times.specs.Window.{at_offset, in_window}
 
 -- ---- one offset, x behind the first
 module _ (win : Window) (before x : ℕ) where
@@ -85,8 +85,8 @@ module _ (win : Window) (o : Offsets) (first skipped m : ℕ) (r : Met win o fir
       let f : t + x - o.before ≡ first + o.step * i = omega arith in
       reached win o.before x (omega arith) (omega (arith, r.inside i h)) ∙ ap (λ (k : ℕ). k ∷ []) f
 
-  pub window : win.current.index < win.count → up_to (λ i. first + o.step * i) m ≡ in_window_lem win o
-  unfolding in_window_lem
+  pub window : win.current.index < win.count → up_to (λ i. first + o.step * i) m ≡ in_window win o
+  unfolding in_window
   window current =
       sym
       (joined_idle (at_offset win) _ (skipped + m) o.count r.few
@@ -122,6 +122,6 @@ module _ (win : Window) (o : Offsets) (s : ℕ) where
       ⊎_elim (among n) (λ here. record { number = n; at = lies_at win o.before (o.step * n) s here })
       (Memᴰ.append_cases _ (rw (joined_next (at_offset win) (λ i. minus (o.step * i) o.before) n) at l))
 
-  pub in_window_lem : Memᴰ s (in_window_lem win o) → AtOffset win o s
-  unfolding in_window_lem
+  pub in_window_lem : Memᴰ s (in_window win o) → AtOffset win o s
+  unfolding in_window
   in_window_lem l = among o.count l

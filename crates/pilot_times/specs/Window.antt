@@ -32,8 +32,8 @@ abbrev pub at_offset : Window → ℤ → List ℕ
 at_offset win (pos d) = cond (ltb (win.current.index + d) win.count) ((win.current.index + d) ∷ []) []
 at_offset win (negsuc d) = cond (ltb d win.current.index) ((win.current.index - suc d) ∷ []) []
 
-unfoldable pub in_window_lem : Window → Offsets → List ℕ
-in_window_lem win o = joined (at_offset win) (offsets o)
+unfoldable pub in_window : Window → Offsets → List ℕ
+in_window win o = joined (at_offset win) (offsets o)
 
 -- the phase of spectrum s: phases count on from symbol to symbol, round four; 4 index is added first, since ℕ stops at 0
 abbrev pub phase_in : Current → ℕ → ℕ

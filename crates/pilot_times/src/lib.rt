@@ -3,6 +3,8 @@
 // from it.
 //
 // A scattered pilot comes back on its carrier every fourth symbol, a continual pilot every symbol.
+#![tactic(auto)]
+
 ghost use Rattle.std.specs.Prelude.{◌⊎◌, ◌≡◌, ◌≤◌, ◌<◌};
 ghost use Rattle.pilot_times.specs.Window.{at_least_one, scattered_offsets, continual_offsets, offset_of, mean, spread};
 ghost use Rattle.pilot_times.specs.Inner.{spectrum_of, Inside, Counted, Searchable, Skippable, Skipped, Reached, offsets_of, TimesOf};

@@ -1,7 +1,7 @@
 -- What is known of a question's bytes, and the cases of what refuses a line.
 -- Assumes nothing.
 use Rattle.std.specs.Prelude.{ℕ, suc, ◌+◌, ◌-◌, ◌≤◌, ◌<◌, Bool, true, false, cond, ◌&&◌, ◌||◌, List, ◌≡◌, refl, eqb, leb, ltb, length, get_or, drop}
-use Rattle.std.proofs.Common.{sym, ap, ◌∙◌, arith, ltb-true, leb-true, leb-false, eqb-true, ne_eqb, le-leb, lt-ltb, le-ltb, length-drop, get_or-drop}
+use Rattle.std.proofs.Common.{ap, ◌∙◌, arith, ltb-true, leb-true, leb-false, eqb-true, ne_eqb, le-leb, lt-ltb, le-ltb, length-drop, get_or-drop}
 use Rattle.std.proofs.Math.ListN.{get_or-map}
 use Rattle.lists.specs.Refusals.{unless}
 use Rattle.lists.specs.Tests.{all_in, all_in_at, both_left, both_right}

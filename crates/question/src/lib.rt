@@ -1,5 +1,7 @@
 // A question of document 01: 17 bytes, `mode,phase,kinds`. Whether a line has that form, and what
 // refuses it.
+#![tactic(auto)]
+
 ghost use Rattle.std.specs.Prelude.{◌≡◌, ◌≤◌, drop};
 ghost use Rattle.lists.specs.Tests.{all_in};
 ghost use Rattle.question.specs.Question.{is_kind_letter, is_question, line_code};
