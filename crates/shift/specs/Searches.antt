@@ -53,7 +53,7 @@ pub searched_more : (f : ℤ → Float) (w : Winner) (zs : List ℤ) (z : ℤ)
     → searched f w (zs ++ (z ∷ [])) ≡ cond (lt (searched f w zs).sum (f z)) (winner z (f z)) (searched f w zs)
 unfolding searched
 searched_more f w [] z = refl
-searched_more f w (y ∷ zs) z = searched_more f _ zs z
+searched_more f w (y ∷ zs) z = searched_more f (cond (lt w.sum (f y)) (winner y (f y)) w) zs z
 
 -- either of two winners
 either : (P : Winner → Type 0) (b : Bool) (x y : Winner) → (T b → P x) → ((T b → ⊥) → P y) → P (cond b x y)

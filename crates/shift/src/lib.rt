@@ -1,6 +1,8 @@
 // The integer frequency offset in carrier spacings (acquire.rs of isdb-rs, `integer_cfo`): the
 // pattern of AC1 carriers and the edge is laid over the ratios of all bins at every shift from -bound
 // to bound, and the greatest sum wins.
+#![tactic(auto)]
+
 ghost use Rattle.std.specs.Prelude.{◌≡◌, ◌≤◌, length};
 ghost use Rattle.params.specs.Params.{mode_from};
 ghost use Rattle.shift.specs.Shift.{pattern, Shifted};

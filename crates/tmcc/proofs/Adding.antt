@@ -17,6 +17,11 @@ use Rattle.spectra.specs.Spectra.{pair_at}
 use Rattle.tmcc.specs.Tmcc.{soft_term}
 use Rattle.tmcc.specs.Inner.{Addable, terms_at, added_to}
 
+-- the carrier at a place of the segment lies in the band
+pub in_band : {mode : Mode} {place : ℕ} {places : List ℕ} {n : ℕ} → Addable mode place places n → (i k : ℕ) → i < length places
+    → k ≡ place * carriers_per_segment mode + get_or places i 0 → k < total_carriers mode
+in_band {mode} {place} h i k l e = omega (arith, segment_ends mode place h.in_band, h.in_segment i l)
+
 module _ (start : Float) (mode : Mode) (place : ℕ) (xs : List Float) (places : List ℕ) where
   pub record Ahead (sum : Float) (i : ℕ) : Type 0 where
     pub passed : i ≤ length places
@@ -25,11 +30,6 @@ module _ (start : Float) (mode : Mode) (place : ℕ) (xs : List Float) (places :
   pub begin : Ahead start 0
   unfolding added_to
   begin = record { passed = omega arith; summed = refl }
-
-  -- the carrier at a place of the segment lies in the band
-  pub in_band : {n : ℕ} → Addable mode place places n → (i k : ℕ) → i < length places → k ≡ place * carriers_per_segment mode + get_or places i 0
-      → k < total_carriers mode
-  in_band h i k l e = omega (arith, segment_ends mode place h.in_band, h.in_segment i l)
 
   module _ (sum : Float) (i : ℕ) (a : Ahead sum i) (len k : ℕ) (band : len ≡ total_carriers mode)
       (at : k ≡ place * carriers_per_segment mode + get_or places i 0) where

@@ -3,7 +3,7 @@
 -- Assumes nothing.
 use Prim.Native.Nat.{ℕ, suc, suc-le-suc, ◌+◌, ◌*◌, ◌/◌, ◌≤◌, ◌<◌}
 use Rattle.std.specs.Prelude.{Bool, true, false, cond, ◌&&◌, List, [], ◌∷◌, map, ◌≡◌, refl, eqb, leb, ltb, Float, get_or, length}
-use Rattle.std.proofs.Math.Path.{sym}
+use Rattle.std.proofs.Math.Path.{sym, subst}
 use Rattle.std.proofs.Common.{ap, ◌∙◌, arith, eq-eqb, ne_eqb, le-leb, leb-true, ltb-true, lit<}
 use Rattle.std.proofs.Math.Decide.{dec_lt}
 use Rattle.std.proofs.Math.Nat.{zero-add}
@@ -88,7 +88,7 @@ module _ (t : ℕ → Bool) (k end : ℕ) where
       l = first_laid j end a ks e
 
       next : (i : ℕ) → i < length xs → t (get_or xs i 0) ≡ memb (suc j + i) (a ∷ ks)
-      next i m = let q : j + suc i ≡ suc j + i = omega arith in rw q at (h (suc i) (suc-le-suc m))
+      next i m = let q : j + suc i ≡ suc j + i = omega arith in subst (λ (z : ℕ). t (get_or xs i 0) ≡ memb z (a ∷ ks)) q (h (suc i) (suc-le-suc m))
 
       by : Dec (j < a)
           → ((ks' : List ℕ) → laid (suc j) end ks' ≡ true → ((i : ℕ) → i < length xs → t (get_or xs i 0) ≡ memb (suc j + i) ks')

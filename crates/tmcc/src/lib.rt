@@ -1,5 +1,7 @@
 // The soft value of the TMCC carriers between two symbols (acquire.rs of isdb-rs, `tmcc_soft`): below
 // zero it reads as bit 1.
+#![tactic(auto)]
+
 ghost use Rattle.std.specs.Prelude.{◌≡◌, ◌*◌, length};
 ghost use Rattle.params.specs.Params.{mode_from, total_carriers};
 ghost use Rattle.tmcc.specs.Tmcc.{passes, soft_value, SoftTold};

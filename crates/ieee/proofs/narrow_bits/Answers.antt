@@ -32,7 +32,9 @@ closest-q-requires c =
     (subst (λ (x : ℕ). 0 < x) (sym e) (pow_pos d), subst (λ (x : ℕ). x < 9223372036854775808) (sym e) (pow-lt {j = 63} (omega arith)), omega arith)
 
 pub overflow_cast-result : goal.overflow_cast-result
-overflow_cast-result c = record { fits = omega (arith, (sub_way _ _ _ c.closest-q.ensures c.power.ensures (omega (arith, c.if-e-lt873.false)) c.if-e-lt897.true).low) }
+overflow_cast-result c =
+    let w : Narrowed c.args.b c.closest-q.result = sub_way _ _ _ c.closest-q.ensures c.power.ensures (omega (arith, c.if-e-lt873.false)) c.if-e-lt897.true in
+    record { fits = omega (arith, w.low) }
 
 pub returns-then-e-lt897 : goal.returns-then-e-lt897
 returns-then-e-lt897 c = sub_way _ _ _ c.closest-q.ensures c.power.ensures (omega (arith, c.if-e-lt873.false)) c.if-e-lt897.true

@@ -13,4 +13,6 @@ pub returns-in-3 : goal.returns-in-3
 returns-in-3 c = rw c.in-3.is
 
 pub returns-in_default : goal.returns-in_default
-returns-in_default c = rw (ne_eqb _ 1 c.in_default.in_default-own.rest.0.0.1, ne_eqb _ 2 c.in_default.in_default-own.rest.0.1, ne_eqb _ 3 c.in_default.in_default-own.rest.1)
+returns-in_default c =
+    let others = c.in_default.in_default-own.rest in
+    rw (ne_eqb _ 1 others.0.0.1, ne_eqb _ 2 others.0.1, ne_eqb _ 3 others.1)
