@@ -12,7 +12,7 @@ use lib.ListN.{get_or}
 use lib.Ieee.{Float, binary32, add}
 use Rattle.ieee.specs.Sums.{total, total_append}
 use Rattle.params.specs.declared.Mode.{Mode}
-use Rattle.complex.specs.Complex.{Pair, of32, scaled, plus}
+use Rattle.complex.specs.Complex.{Pair, of32, scaled, plus, product, conjugate}
 use Rattle.complex.specs.Totals.{totals, totals_append}
 use Rattle.spectra.specs.Spectra.{pair_at}
 use Rattle.prbs.specs.Signs.{band_signs}
@@ -60,7 +60,8 @@ module _ {mode : Mode} {y : ℕ → Pair} {ks : List ℕ} {next : ℕ} {s : Run}
       let more : twelve_apart (ks ++ (next ∷ [])) ≡ twelve_apart ks ++ (k.last ∷ []) =
       behind ks k.earlier k.last next k.ends ∙ rw (eq-eqb next (k.last + 12) k.twelve) in
       record {
-        sum = j.sum ∙ rw (e, more, product_more mode y (twelve_apart ks) k.last, w.sum, k.value, k.twelve);
+        sum = j.sum ∙ rw (e, more, product_more mode y (twelve_apart ks) k.last)
+            (λ i. plus binary32 (w.sum i) (product binary32 (times_pilot mode y (k.twelve i)) (conjugate (k.value i))));
         energy = j.energy ∙ rw (e, more, energy_more mode y (twelve_apart ks) k.last, w.energy, k.norm, k.twelve);
       }
   sums false e j =

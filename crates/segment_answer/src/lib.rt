@@ -1,5 +1,7 @@
 // The answer to one line of the segment list of document 01: for a question a line for each of the
 // thirteen segments, by place, and one for the edge; for any other line its refusal.
+#![tactic(auto)]
+
 ghost use Rattle.std.specs.Prelude.{◌<◌, ◌≤◌, ◌+◌, ◌/◌, length};
 ghost use Rattle.lists.specs.Lists.{joined, range};
 ghost use Rattle.role_counts.specs.Counts.{kind_counts};
