@@ -31,7 +31,8 @@ twelve_more : (ks : List ℕ) (a b : ℕ) → twelve_apart ((ks ++ (a ∷ [])) +
 unfolding twelve_apart
 twelve_more [] a b = refl
 twelve_more (x ∷ []) a b = grown (eqb a (x + 12)) x [] (cond (eqb b (a + 12)) (a ∷ []) [])
-twelve_more (x ∷ z ∷ ks) a b = rw (twelve_more (z ∷ ks) a b) (grown (eqb z (x + 12)) x (twelve_apart (z ∷ (ks ++ (a ∷ [])))) (cond (eqb b (a + 12)) (a ∷ []) []))
+twelve_more (x ∷ z ∷ ks) a b =
+    rw (twelve_more (z ∷ ks) a b) (grown (eqb z (x + 12)) x (twelve_apart (z ∷ (ks ++ (a ∷ [])))) (cond (eqb b (a + 12)) (a ∷ []) []))
 
 behind : (ks earlier : List ℕ) (last n : ℕ) → ks ≡ earlier ++ (last ∷ [])
     → twelve_apart (ks ++ (n ∷ [])) ≡ twelve_apart ks ++ cond (eqb n (last + 12)) (last ∷ []) []

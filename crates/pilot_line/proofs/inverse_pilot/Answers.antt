@@ -4,8 +4,7 @@ use mathlib.Core.Path.{◌≡◌, refl}
 use borrow.Author.Tests.{eq-eqb, ne_eqb}
 use lib.Ieee.{binary32, of_bits, neg, div}
 use Rattle.pilots.specs.Pilots.{pilot_amplitude}
-use Rattle.pilot_line.proofs.inverse_pilot.Statement.{statement}
-use Rattle.pilot_line.proofs.inverse_pilot.Tie as tie
+use Rattle.pilot_line.proofs.inverse_pilot.Goals as goal
 
 inverse : of_bits binary32 0x3f40_0000 ≡ div binary32 (of_bits binary32 0x3f80_0000) pilot_amplitude
 unfolding of_bits div
@@ -15,11 +14,8 @@ inverse_minus : neg (of_bits binary32 0x3f40_0000) ≡ div binary32 (of_bits bin
 unfolding of_bits div neg
 inverse_minus = refl
 
-returns : tie.Need-returns
-returns c = rw (eq-eqb _ _ c.if1.true) inverse
+pub returns-then-sign-eq0 : goal.returns-then-sign-eq0
+returns-then-sign-eq0 c = rw (eq-eqb _ _ c.if-sign-eq0.true) inverse
 
-returns-2 : tie.Need-returns-2
-returns-2 c = rw (ne_eqb _ _ c.if1.false) inverse_minus
-
-pub inverse_pilot_spec : {M : Type 1} → statement M
-inverse_pilot_spec = tie.close (tie.spec returns returns-2)
+pub returns-else-sign-eq0 : goal.returns-else-sign-eq0
+returns-else-sign-eq0 c = rw (ne_eqb _ _ c.if-sign-eq0.false) inverse_minus

@@ -4,7 +4,6 @@ use Prim.Native.Nat.{ℕ, zero, suc, ◌<◌}
 use mathlib.Core.Path.{◌≡◌, refl, sym, ap, ◌∙◌, subst}
 use native.Mathlib.Decide.{dec_lt}
 use native.Mathlib.Omega.{arith}
-use borrow.Author.Rules.{rules}
 use borrow.Author.Tests.{lt-ltb, le-ltb}
 use lib.IntN.{ℤ, pos, negsuc, neg_ℤ, sub_ℕ, ◌-ℤ◌, +ℤ_idl}
 use lib.Signed.{mag}
@@ -16,8 +15,7 @@ use Rattle.complex.specs.Complex.{Pair, of64}
 use Rattle.angle.specs.Angle.{angle_of, AngleRange}
 use Rattle.angle.specs.Facts.{angle_range, angle_back}
 use Rattle.cfo_frac.specs.CfoFrac.{cfo_frac}
-use Rattle.cfo_frac.proofs.cfo_frac.Statement.{statement}
-use Rattle.cfo_frac.proofs.cfo_frac.Tie as tie
+use Rattle.cfo_frac.proofs.cfo_frac.Goals as goal
 
 -- a difference of two small numbers, in 32 bits
 sub_small : (a b : ℕ) → a < 65537 → b < 65537 → SFits w32 (sub_ℕ a b)
@@ -54,24 +52,15 @@ turn_is : of_bits binary64 0x40f0_0000_0000_0000 ≡ of_int binary64 (pos 65536)
 unfolding of_bits of_int
 turn_is = refl
 
-angle-requires : tie.Need-angle-requires
-angle-requires c κs = search rules
-
-sub-result : tie.Need-overflow-sub-result
-sub-result c =
-    let few : mag (to_z w32 (of_z w32 c.angle.result)) < 65536 = small (of64 c.before.args.correlation) c.angle.result c.angle.ensures in
+pub overflow_sub-result : goal.overflow_sub-result
+overflow_sub-result c =
+    let few : mag (to_z w32 (of_z w32 c.angle-a.result)) < 65536 = small (of64 c.args.correlation) c.angle-a.result c.angle-a.ensures in
     let none : mag (to_z w32 0) < 65536 = omega arith in
     search (difference_small, few, none)
 
-int-to-float-result : tie.Need-int-to-float-result
-int-to-float-result c = search rules
-
-returns : tie.Need-returns
+pub returns : goal.returns
 unfolding cfo_frac
 returns c =
-    let a = c.before.angle in
-    let n = negated_is (of64 c.before.before.args.correlation) a.result a.ensures in
+    let a = c.angle-a in
+    let n = negated_is (of64 c.args.correlation) a.result a.ensures in
     λ i. div binary64 (of_int binary64 (n i)) (turn_is i)
-
-pub cfo_frac_spec : {M : Type 1} → statement M
-cfo_frac_spec = tie.close (tie.spec angle-requires sub-result int-to-float-result returns)
