@@ -3,7 +3,8 @@
 -- Assumes nothing.
 use Rattle.std.specs.Prelude.{Bool, not, cond, ◌⊎◌, ◌≡◌, refl, ℕ, zero, suc, ◌+◌, ◌-◌, ◌*◌, ◌/◌, ◌%◌, ◌≤◌, ◌<◌, leb, eqb, ℤ, pos, negsuc, ◌+ℤ◌}
 use Rattle.std.proofs.Math.Bool.{true, false}
-use Rattle.std.proofs.Common.{inl, inr, sym, ap, ◌∙◌, subst, mul_right_comm, mul-le-mul_right, mul-lt-mul_of_pos_right, add-mul, arith, le-leb, lt-ltb, le-ltb, ne_eqb}
+use Rattle.std.proofs.Common.{inl, inr, sym, ap, ◌∙◌, subst, mul_right_comm}
+use Rattle.std.proofs.Common.{mul-le-mul_right, mul-lt-mul_of_pos_right, add-mul, arith, le-leb, lt-ltb, le-ltb, ne_eqb}
 use Rattle.std.proofs.Math.Nat.{mul-div-mul_right, mul-div_cancel_left, zero-div}
 use Rattle.std.proofs.lemmas.Bool.{lt-leb}
 use Rattle.ieee.specs.Numbers.{split, zero_scale}

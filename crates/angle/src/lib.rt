@@ -2,6 +2,8 @@
 // arctangents (docs/ANGLE.md): the slope of the pair within its octant, looked up between two entries,
 // and mirrored into the octant of the pair. The sizes are read from the bits, and no float is
 // rounded, so that turns, mirrors and powers of two keep the angle exactly.
+#![tactic(auto)]
+
 mod arctangents;
 
 ghost use Rattle.std.specs.Prelude.{◌≡◌, ◌+◌, ◌*◌, ◌/◌, ◌≤◌, ◌<◌, leb};

@@ -12,7 +12,7 @@ use lib.ListN.{get_or}
 use lib.Ieee.{Float, binary32, add}
 use Rattle.ieee.specs.Sums.{total, total_append}
 use Rattle.params.specs.declared.Mode.{Mode}
-use Rattle.complex.specs.Complex.{Pair, of32, scaled, plus}
+use Rattle.complex.specs.Complex.{Pair, of32, scaled, plus, product, conjugate}
 use Rattle.complex.specs.Totals.{totals, totals_append}
 use Rattle.spectra.specs.Spectra.{pair_at}
 use Rattle.prbs.specs.Signs.{band_signs}
@@ -31,7 +31,8 @@ twelve_more : (ks : List ℕ) (a b : ℕ) → twelve_apart ((ks ++ (a ∷ [])) +
 unfolding twelve_apart
 twelve_more [] a b = refl
 twelve_more (x ∷ []) a b = grown (eqb a (x + 12)) x [] (cond (eqb b (a + 12)) (a ∷ []) [])
-twelve_more (x ∷ z ∷ ks) a b = rw (twelve_more (z ∷ ks) a b) (grown (eqb z (x + 12)) x (twelve_apart (z ∷ (ks ++ (a ∷ [])))) (cond (eqb b (a + 12)) (a ∷ []) []))
+twelve_more (x ∷ z ∷ ks) a b =
+    rw (twelve_more (z ∷ ks) a b) (grown (eqb z (x + 12)) x (twelve_apart (z ∷ (ks ++ (a ∷ [])))) (cond (eqb b (a + 12)) (a ∷ []) []))
 
 behind : (ks earlier : List ℕ) (last n : ℕ) → ks ≡ earlier ++ (last ∷ [])
     → twelve_apart (ks ++ (n ∷ [])) ≡ twelve_apart ks ++ cond (eqb n (last + 12)) (last ∷ []) []
@@ -60,7 +61,8 @@ module _ {mode : Mode} {y : ℕ → Pair} {ks : List ℕ} {next : ℕ} {s : Run}
       let more : twelve_apart (ks ++ (next ∷ [])) ≡ twelve_apart ks ++ (k.last ∷ []) =
       behind ks k.earlier k.last next k.ends ∙ rw (eq-eqb next (k.last + 12) k.twelve) in
       record {
-        sum = j.sum ∙ rw (e, more, product_more mode y (twelve_apart ks) k.last, w.sum, k.value, k.twelve);
+        sum = j.sum ∙ rw (e, more, product_more mode y (twelve_apart ks) k.last)
+            (λ i. plus binary32 (w.sum i) (product binary32 (times_pilot mode y (k.twelve i)) (conjugate (k.value i))));
         energy = j.energy ∙ rw (e, more, energy_more mode y (twelve_apart ks) k.last, w.energy, k.norm, k.twelve);
       }
   sums false e j =

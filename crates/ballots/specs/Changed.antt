@@ -146,7 +146,7 @@ choose_same f g best p zero h = refl
 choose_same f g best p (suc n) h =
     let e = h p (omega arith) in
     ap (λ (m : Float). choose_from f (cond (lt best.metric m) (record { phase = p; metric = m }) best) (suc p) n) e
-    ∙ choose_same f g _ (suc p) n (λ i l. h i (omega arith))
+    ∙ choose_same f g (cond (lt best.metric (g p)) (record { phase = p; metric = g p }) best) (suc p) n (λ i l. h i (omega arith))
 
 ballot_same : (mode : Mode) (kinds : List ℕ) (y z : ℕ → Pair) → ((phase : ℕ) → phase < 4 → SamePhase mode kinds y z phase)
     → ballot_of mode kinds z ≡ ballot_of mode kinds y

@@ -1,6 +1,8 @@
 // One spectrum's ballot for the scattered-pilot phase (acquire.rs of isdb-rs, `detect_sp_phase`): for each
 // phase, products of pilots 12 carriers apart, their known signs multiplied in, add up coherently for the
 // right phase alone.
+#![tactic(auto)]
+
 ghost use Rattle.std.specs.Prelude.{◌≡◌, ◌*◌, ◌≤◌, ◌<◌, length};
 ghost use Rattle.complex.specs.Complex.{of32};
 ghost use Rattle.spectra.specs.Spectra.{pair_at};

@@ -1,5 +1,7 @@
 // The fractional carrier offset (acquire.rs of isdb-rs, `cfo_frac`), from the summed correlation of a
 // guess: how far carriers sit above their bins, in carrier spacings.
+#![tactic(auto)]
+
 ghost use Rattle.std.specs.Prelude.{◌≡◌};
 ghost use Rattle.complex.specs.Complex.{of64};
 ghost use Rattle.cfo_frac.specs.CfoFrac.{cfo_frac};

@@ -190,9 +190,49 @@ sample_is : pair (whole binary32 1) (whole binary32 0) ≡ sample
 unfolding round
 sample_is = refl
 
+abbrev one : Float
+one = fin false 1 (pos 0)
+
+abbrev no : Bool → Float
+no s = fin s 0 (pos 0)
+
+one_by_one : mul binary32 one one ≡ one
+unfolding mul
+one_by_one = refl
+
+zero_by_minus : mul binary32 (no false) (no true) ≡ no true
+unfolding mul
+zero_by_minus = refl
+
+one_by_minus : mul binary32 one (no true) ≡ no true
+unfolding mul
+one_by_minus = refl
+
+zero_by_one : mul binary32 (no false) one ≡ no false
+unfolding mul
+zero_by_one = refl
+
+real_part : sub binary32 one (no true) ≡ number 1
+unfolding round sub
+real_part = refl
+
+imaginary_part : add binary32 (no true) (no false) ≡ number 0
+unfolding round add
+imaginary_part = refl
+
+turned_sample : neg (no false) ≡ no true
+unfolding neg
+turned_sample = refl
+
 sample_product : product binary32 sample (conjugate sample) ≡ pair (number 1) (number 0)
-unfolding round neg add sub mul
-sample_product = refl
+sample_product =
+    let minus : mul binary32 (no false) (neg (no false)) ≡ no true = ap (mul binary32 (no false)) turned_sample ∙ zero_by_minus in
+    let cross : mul binary32 one (neg (no false)) ≡ no true = ap (mul binary32 one) turned_sample ∙ one_by_minus in
+    let re : sub binary32 (mul binary32 one one) (mul binary32 (no false) (neg (no false))) ≡ number 1 =
+    (λ j. sub binary32 (one_by_one j) (minus j)) ∙ real_part in
+    let im : add binary32 (mul binary32 one (neg (no false))) (mul binary32 (no false) one) ≡ number 0 =
+    (λ j. add binary32 (cross j) (zero_by_one j)) ∙ imaginary_part in
+    λ i. record { re = re i; im = im i }
 
 sample_energy : mul binary64 (add binary32 (squared_size binary32 sample) (squared_size binary32 sample)) half ≡ number 1
 unfolding of_bits round add mul

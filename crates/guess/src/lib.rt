@@ -1,6 +1,8 @@
 // Mode, guard interval and symbol timing from guard-interval autocorrelation (acquire.rs of isdb-rs,
 // `detect_mode`): the search over modes, guards and offsets. Samples are lent flat, real and imaginary
 // part in turn; modes and guards are lists of codes, tried in the order given.
+#![tactic(auto)]
+
 ghost use Rattle.std.specs.Prelude.{◌≡◌, length};
 ghost use Rattle.std.specs.Float.{binary64};
 ghost use Rattle.ieee.specs.Constants.{plus_zero};

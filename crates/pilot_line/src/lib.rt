@@ -1,5 +1,7 @@
 // The estimate of the channel at one carrier, after chanest.rs of isdb-rs (`ls_line_at_zero`): a straight
 // line by least squares through the carrier's values at the times of its pilot, at the current symbol.
+#![tactic(auto)]
+
 ghost use Rattle.std.specs.Prelude.{◌≡◌, map, ◌<◌, length};
 ghost use Rattle.complex.specs.Complex.{of32};
 ghost use Rattle.pilot_times.specs.Inner.{spectra_of, Timed};

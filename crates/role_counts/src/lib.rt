@@ -22,7 +22,7 @@ pub struct KindCounts {
 // Mode 1's segment is the unit of carriers.
 fn units(mode: Mode) -> usize
     ensures value { result ≡ Counts·units mode }
-    ensures lower_bound { (1 ≤ result) × (result ≤ 4) }
+    ensures within { (1 ≤ result) × (result ≤ 4) }
 {
     match mode {
         Mode::M1 => 1,

@@ -2,7 +2,7 @@
 -- Assumes nothing.
 use Prim.Native.Nat.{ℕ, ◌+◌, ◌*◌, ◌≤◌, ◌<◌}
 use mathlib.Core.List.{List, ◌∷◌, ◌++◌}
-use mathlib.Core.Path.{◌≡◌, ◌∙◌}
+use mathlib.Core.Path.{◌≡◌, ap, ◌∙◌}
 use native.Mathlib.Omega.{arith}
 use lib.ListN.{length, get_or}
 use lib.Ieee.{Float}
@@ -43,4 +43,7 @@ module _ (mode : Mode) (seg place : ℕ) (ratios : List Float) (b : Banded mode 
   pub scored : (r : Float) → r ≡ mean_of (ratio_at mode place ratios) (kept (front tmcc) (front ac1) (0 ∷ (front ac2 ++ front differential)))
       → r ≡ kind_score mode ratios seg
   unfolding mean_of kind_score kind_places
-  scored r e = e ∙ rw (t.places, a.places, a2.places, d.places, placed)
+  scored r e =
+      let tells = ap (λ (x : List ℕ). kept x (front ac1)) t.places ∙ ap (kept (tmcc_of mode Coherent seg)) a.places in
+      let mean = λ (k : List ℕ → List ℕ). mean_of (ratio_at mode place ratios) (k (0 ∷ (front ac2 ++ front differential))) in
+      e ∙ ap mean tells ∙ rw (a2.places, d.places, placed)

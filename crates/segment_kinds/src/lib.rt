@@ -1,6 +1,8 @@
 // The kinds of the thirteen segments (acquire.rs of isdb-rs, `detect_kinds`): a segment is differential
 // where the carriers that are continual in a differential segment only (CP, AC2, differential TMCC) are
 // coherent over time.
+#![tactic(auto)]
+
 ghost use Rattle.std.specs.Prelude.{◌≡◌, ◌∷◌, ◌++◌, length};
 ghost use Rattle.params.specs.Params.{mode_from, total_carriers};
 ghost use Rattle.lists.specs.Tests.{memb};

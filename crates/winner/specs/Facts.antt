@@ -2,7 +2,8 @@
 -- three counts, and the lead over it is at most the winner's count.
 -- Assumes nothing.
 use Rattle.std.specs.Prelude.{ℕ, zero, suc, ◌≤◌, ◌<◌, Bool, true, false, cond, List, [], ◌∷◌, ◌≡◌, eqb, leb, ltb, get_or, length}
-use Rattle.std.proofs.Common.{suc-le-suc, inl, inr, sym, ◌∙◌, le_trans, le_of_suc-le-suc, not-suc-le-zero, eq-or-lt_of_le, arith, leb-true, leb-false, ltb-true, ltb-false, ne_eqb, eqb-true}
+use Rattle.std.proofs.Common.{suc-le-suc, inl, inr, sym, ◌∙◌, le_trans, le_of_suc-le-suc, not-suc-le-zero}
+use Rattle.std.proofs.Common.{eq-or-lt_of_le, arith, leb-true, leb-false, ltb-true, ltb-false, ne_eqb, eqb-true}
 use Rattle.std.proofs.Math.Path.{refl}
 use Rattle.std.proofs.lemmas.Bool.{eqb-false}
 use Rattle.lists.specs.Select.{get_or_up_to}

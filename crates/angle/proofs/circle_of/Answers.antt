@@ -1,0 +1,38 @@
+-- `angle::circle_of` meets its contract: a number that is no NaN has the bits of its value.
+-- Assumes nothing.
+use mathlib.Core.Path.{sym, ap, ◌∙◌, subst}
+use Prim.Native.Nat.{ℕ, ◌<◌}
+use native.Mathlib.Omega.{arith}
+use lib.Dec.{T}
+use lib.Ieee.{binary64, fits}
+use lib.Ieee.Bits.{of_bits-to_bits}
+use lib.Ieee.Compare.{differs_from_itself}
+use Rattle.ieee.specs.Order.{no_nan}
+use Rattle.angle.specs.Angle.{circle_of, finite}
+use Rattle.angle.specs.Facts.{circle_most}
+use Rattle.angle.proofs.Sizes.{re_out, im_out}
+use Rattle.angle.proofs.circle_of.Goals as goal
+
+pub returns-then-re : goal.returns-then-re
+returns-then-re c =
+    let s = c.args in
+    (re_out s.re s.im (ap finite (differs_from_itself s.re (subst T (sym c.if-re.true) tt))), omega arith)
+
+pub returns-then-im : goal.returns-then-im
+returns-then-im c =
+    let s = c.args in
+    (im_out s.re s.im (ap finite (differs_from_itself s.im (subst T (sym c.if-im.true) tt))), omega arith)
+
+pub float_to_bits-re : goal.float_to_bits-re
+float_to_bits-re c = no_nan c.args.re c.if-re.false
+
+pub float_to_bits-im : goal.float_to_bits-im
+float_to_bits-im c = no_nan c.args.im c.if-im.false
+
+pub returns : goal.returns
+returns c =
+    let s = c.args in
+    let hx : T (fits binary64 s.re) = subst T (sym c.well_formed.0.1) tt in
+    let hy : T (fits binary64 s.im) = subst T (sym c.well_formed.1.0.1) tt in
+    let e = c.circle_of_bits.ensures ∙ (λ i. circle_of (of_bits-to_bits binary64 s.re hx i) (of_bits-to_bits binary64 s.im hy i)) in
+    (e, subst (λ (n : ℕ). n < 65536) (sym e) (circle_most s.re s.im))

@@ -1,0 +1,51 @@
+-- `angle::circle_of_bits` meets its contract: the sizes of the two numbers, in units of 2 ^ -1074, have the angle of the numbers.
+-- Assumes nothing.
+use mathlib.Core.Path.{◌≡◌, sym, ap, ◌∙◌}
+use Prim.Native.Nat.{◌%◌}
+use native.Mathlib.Omega.{arith}
+use lib.Dec.{leb}
+use lib.Ieee.{binary64, of_bits}
+use Rattle.angle.specs.Angle.{mirror, around}
+use Rattle.angle.specs.Inner.{size_of}
+use Rattle.angle.specs.Circle.{around_some, half_most}
+use Rattle.angle.proofs.Sizes.{not_number, re_out, im_out, bits_circle, zero_around, size_some}
+use Rattle.angle.proofs.circle_of_bits.Goals as goal
+
+pub returns-then-a-ge9218868437227405312 : goal.returns-then-a-ge9218868437227405312
+returns-then-a-ge9218868437227405312 c =
+    let s = c.args in
+    re_out (of_bits binary64 s.x) (of_bits binary64 s.y) (not_number s.x c.if-a-ge9218868437227405312.true)
+
+pub returns-then-b-ge9218868437227405312 : goal.returns-then-b-ge9218868437227405312
+returns-then-b-ge9218868437227405312 c =
+    let s = c.args in
+    im_out (of_bits binary64 s.x) (of_bits binary64 s.y) (not_number s.y c.if-b-ge9218868437227405312.true)
+
+pub returns-then-a-b-eq0 : goal.returns-then-a-b-eq0
+returns-then-a-b-eq0 c =
+    let s = c.args in
+    let l = leb 9223372036854775808 s.x in
+    let r = leb 9223372036854775808 s.y in
+    let e : s.x % 9223372036854775808 ≡ 0 = omega arith in
+    let f : s.y % 9223372036854775808 ≡ 0 = omega arith in
+    sym (bits_circle s.x s.y (omega arith) (omega arith) (omega arith) (omega arith)
+    ∙ (λ i. around l (size_of (e i)) r (size_of (f i))) ∙ zero_around l r)
+
+pub mirror_of-requires-2 : goal.mirror_of-requires-2
+mirror_of-requires-2 c =
+    let l = leb 9223372036854775808 c.args.x in
+    let m = half_most l c.quarter_of.result (omega arith) in
+    let e = c.mirror_of.ensures in
+    omega arith
+
+pub returns : goal.returns
+returns c =
+    let s = c.args in
+    let a = s.x % 9223372036854775808 in
+    let b = s.y % 9223372036854775808 in
+    let l = leb 9223372036854775808 s.x in
+    let r = leb 9223372036854775808 s.y in
+    c.mirror_of-2.ensures
+    ∙ ap (mirror r 65536) (c.mirror_of.ensures ∙ ap (mirror l 32768) c.quarter_of.ensures.0)
+    ∙ sym (around_some l (size_of a) r (size_of b) (size_some a b (omega arith)))
+    ∙ sym (bits_circle s.x s.y (omega arith) (omega arith) (omega arith) (omega arith))

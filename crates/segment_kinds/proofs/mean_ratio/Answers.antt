@@ -1,0 +1,32 @@
+-- `segment_kinds::mean_ratio` meets its contract: the places of the three lists, added one list after another.
+-- Assumes nothing.
+use mathlib.Core.Path.{refl}
+use Rattle.segment_kinds.proofs.Means.{first_addable, ac2_addable, tmcc_addable, whole_count, mean}
+use Rattle.segment_kinds.proofs.mean_ratio.Goals as goal
+
+pub add_places-a-requires : goal.add_places-a-requires
+add_places-a-requires c = first_addable _ _ _ c.requires.here
+
+pub add_places-b-requires : goal.add_places-b-requires
+add_places-b-requires c =
+    let x = c.args in
+    ac2_addable x.mode x.at.0 x.tmcc.now x.ac1.now x.ac2.now x.differential.now x.ratios.now c.requires _ refl
+    _ c.add_places-a.ensures
+
+pub add_places-m-requires : goal.add_places-m-requires
+add_places-m-requires c =
+    let x = c.args in
+    tmcc_addable x.mode x.at.0 x.tmcc.now x.ac1.now x.ac2.now x.differential.now x.ratios.now c.requires _ refl
+    _ c.add_places-a.ensures _ c.add_places-b.ensures
+
+pub int_to_float-result : goal.int_to_float-result
+int_to_float-result c =
+    let x = c.args in
+    whole_count x.mode x.at.0 x.tmcc.now x.ac1.now x.ac2.now x.differential.now x.ratios.now c.requires _ refl
+    _ c.add_places-a.ensures _ c.add_places-b.ensures _ c.add_places-m.ensures
+
+pub returns : goal.returns
+returns c =
+    let x = c.args in
+    mean x.mode x.at.0 x.tmcc.now x.ac1.now x.ac2.now x.differential.now x.ratios.now c.requires _ refl
+    _ c.add_places-a.ensures _ c.add_places-b.ensures _ c.add_places-m.ensures refl
