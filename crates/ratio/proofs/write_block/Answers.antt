@@ -15,8 +15,7 @@ ratio_in-requires c =
     record {
       some = c.requires.some;
       few = c.requires.few;
-      room = omega
-          (arith, mul-le-mul_right c.args.bins.slot c.loop-i-test.true, c.requires.spare, c.requires.room);
+      room = omega (arith, mul-le-mul_right c.args.bins.slot c.loop-i-test.true, c.requires.spare, c.requires.room);
     }
 
 pub overflow_add-out : goal.overflow_add-out
