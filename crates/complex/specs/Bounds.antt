@@ -180,7 +180,8 @@ module _ (k : ℕ) (K : k ≤ most) where
   -- up to 512 pairs of pilots: there are 467 in mode 3, all segments coherent
   pub pilot_sum_gain : (xs ys : List Pair) → length xs ≤ 512 → Each (BothScaled pilot_step_level k) xs ys
       → BothScaled (many 512 pilot_step_level) k (totals binary32 (origin binary32) xs) (totals binary32 (origin binary32) ys)
-  pilot_sum_gain xs ys N h = totals_scaled binary32 most k 0 512 pilot_step_level _ _ xs ys K tt (omega arith) (origin_at binary32 (many 0 pilot_step_level) k) h
+  pilot_sum_gain xs ys N h = totals_scaled binary32 most k 0 512 pilot_step_level _ _ xs ys K tt (omega arith)
+      (origin_at binary32 (many 0 pilot_step_level) k) h
 
   pub pilot_energy_sum_gain : (xs ys : List Float) → length xs ≤ 512 → Each (Scaled pilot_energy_level k) xs ys
       → Scaled (many 512 pilot_energy_level) k (total binary32 (plus_zero binary32) xs) (total binary32 (plus_zero binary32) ys)

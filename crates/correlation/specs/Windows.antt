@@ -108,7 +108,8 @@ window_plain sums ng from =
 module _ (k : ℕ) (K : k ≤ most) (l : Level) (R : T (roomy binary64 most (guess_level l))) where
   -- a guard that ends within the terms reads prefix sums that are there
   difference_at : (us vs : List Float) (ng len a : ℕ) → length us ≡ suc len → Each (Scaled (prefix_level l) k) us vs → a + ng ≤ len
-      → Scaled (many 2 (prefix_level l)) k (sub binary64 (slice_index_or us (a + ng) nan) (slice_index_or us a nan)) (sub binary64 (slice_index_or vs (a + ng) nan) (slice_index_or vs a nan))
+      → Scaled (many 2 (prefix_level l)) k (sub binary64 (slice_index_or us (a + ng) nan) (slice_index_or us a nan))
+      (sub binary64 (slice_index_or vs (a + ng) nan) (slice_index_or vs a nan))
   difference_at us vs ng len a n h e =
       difference_gain k K l R _ _ _ _ (each_at (Scaled (prefix_level l) k) nan us vs (a + ng) h (omega arith))
       (each_at (Scaled (prefix_level l) k) nan us vs a h (omega arith))

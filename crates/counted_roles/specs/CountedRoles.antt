@@ -121,7 +121,8 @@ module _ (f : ℕ → CarrierRole) where
   marks_packed zero = refl
   marks_packed (suc n) =
       rw (many_more Data n, many_more Sp n, many_more Cp n, many_more Tmcc n, many_more (Ac Ac1) n, many_more (Ac Ac2) n, many_more EdgeCp n)
-      (packed_more (f n) (marks f n) (many_of Data n) (many_of Sp n) (many_of Cp n) (many_of Tmcc n) (many_of (Ac Ac1) n) (many_of (Ac Ac2) n) (many_of EdgeCp n)
+      (packed_more (f n) (marks f n) (many_of Data n) (many_of Sp n) (many_of Cp n) (many_of Tmcc n) (many_of (Ac Ac1) n) (many_of (Ac Ac2) n)
+      (many_of EdgeCp n)
       (marks_packed n))
 
 -- the counts of a segment's roles are those of its mode and kind
@@ -158,7 +159,8 @@ module _ (d s c t a b e : ℕ) (k : KindCounts) (l : Few k) where
 
 told : (f : ℕ → CarrierRole) (n : ℕ) (k : KindCounts) → n ≤ 999 → Few k → marks f n ≡ marks_of k → Counted (roles_up f n) k
 told f n k h l e =
-    let w = unpacked (many_of f Data n) (many_of f Sp n) (many_of f Cp n) (many_of f Tmcc n) (many_of f (Ac Ac1) n) (many_of f (Ac Ac2) n) (many_of f EdgeCp n) k l
+    let w = unpacked (many_of f Data n) (many_of f Sp n) (many_of f Cp n) (many_of f Tmcc n) (many_of f (Ac Ac1) n) (many_of f (Ac Ac2) n)
+    (many_of f EdgeCp n) k l
     (many_few f Data n h) (many_few f Sp n h) (many_few f Cp n h) (many_few f Tmcc n h) (many_few f (Ac Ac1) n h) (many_few f (Ac Ac2) n h)
     (sym (marks_packed f n) ∙ e) in
     record { «data» = w.0; sp = w.1; cp = w.2; tmcc = w.3; ac1 = w.4; ac2 = w.5 }

@@ -26,7 +26,8 @@ mark_one places n i role out l h =
     rw (drop-cons (take n places) i 0 k, add-one, get_or-take n places i 0 h)
 
 -- what stands at a place afterwards
-pub marked_at_lem : (ps : List ℕ) (role : ℕ) (out : List ℕ) (p : ℕ) → p < length out → get_or (marked_at ps role out) p 0 ≡ cond (memb p ps) role (get_or out p 0)
+pub marked_at_lem : (ps : List ℕ) (role : ℕ) (out : List ℕ) (p : ℕ) → p < length out
+    → get_or (marked_at ps role out) p 0 ≡ cond (memb p ps) role (get_or out p 0)
 unfolding marked_at
 marked_at_lem [] role out p h = refl
 marked_at_lem (q ∷ ps) role out p h = by (eqb q p) refl (marked_at_lem ps role (set out q role) p (rw length-set h))

@@ -292,7 +292,8 @@ module _ (xs : List Float) (n : length xs ≡ 2 * 10560) (h : (i : ℕ) → i < 
   energy_at_lem : (i : ℕ) → i < lags → lag_energy 2048 xs i ≡ number 1
   energy_at_lem i l =
       let m = rw lags_are at l in
-      (λ j. mul binary64 (add binary32 (squared_size binary32 (sample_at i (omega arith) j)) (squared_size binary32 (sample_at (i + 2048) (omega arith) j))) half)
+      (λ j. mul binary64 (add binary32 (squared_size binary32 (sample_at i (omega arith) j))
+      (squared_size binary32 (sample_at (i + 2048) (omega arith) j))) half)
       ∙ sample_energy
 
   abbrev sum_at : (ℕ → Float) → ℕ → Float

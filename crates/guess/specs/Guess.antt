@@ -51,7 +51,8 @@ scan f best (x ∷ xs) = scan f (f best x) xs
 -- a guard is tried where five of its symbols fit
 unfoldable pub tried_guard : List Float → ℕ → GuardSearch → ℕ → GuardSearch
 tried_guard xs mode best guard =
-    cond (leb (guard_of mode guard + 4 * symbol_of mode guard) (lags_in (fft_of mode) xs)) (scan (offered xs mode guard) best (range (symbol_of mode guard))) best
+    cond (leb (guard_of mode guard + 4 * symbol_of mode guard) (lags_in (fft_of mode) xs))
+    (scan (offered xs mode guard) best (range (symbol_of mode guard))) best
 
 unfoldable pub tried_mode : List Float → List ℕ → GuardSearch → ℕ → GuardSearch
 tried_mode xs guards best mode = cond (ltb (fft_of mode) (pairs_in (length xs))) (scan (tried_guard xs mode) best guards) best

@@ -25,7 +25,8 @@ module _ (mode guard d floats : ℕ) (ys : List Float) (long : length ys ≡ flo
       ≡ pair (sum_at mode guard d floats (λ i. (lag_product (fft_of mode) ys i).re)) (sum_at mode guard d floats (λ i. (lag_product (fft_of mode) ys i).im))
   unfolding correlation_at real_prefixes imaginary_prefixes
   correlation_is =
-      λ j. pair (sum_at mode guard d (long j) (λ i. (lag_product (fft_of mode) ys i).re)) (sum_at mode guard d (long j) (λ i. (lag_product (fft_of mode) ys i).im))
+      λ j. pair (sum_at mode guard d (long j) (λ i. (lag_product (fft_of mode) ys i).re))
+      (sum_at mode guard d (long j) (λ i. (lag_product (fft_of mode) ys i).im))
 
   energy_is : energy_at ys mode guard d ≡ sum_at mode guard d floats (lag_energy (fft_of mode) ys)
   unfolding energy_at energy_prefixes

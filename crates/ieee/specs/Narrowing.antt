@@ -35,7 +35,8 @@ compare_is a b p = go (compare a b) p
     cant : a ≤ b → b < a → ⊥
     cant h k = omega arith
 
-    go : (o p : Ordering) → (T (is_le o) → a ≤ b) → (T (not (is_le o)) → b < a) → (T (compare_is_eq o) → a ≡ b) → (a ≡ b → T (compare_is_eq o)) → (p ≡ Ordering.lt → a < b)
+    go : (o p : Ordering) → (T (is_le o) → a ≤ b) → (T (not (is_le o)) → b < a) → (T (compare_is_eq o) → a ≡ b) → (a ≡ b → T (compare_is_eq o))
+        → (p ≡ Ordering.lt → a < b)
         → (p ≡ Ordering.eq → a ≡ b) → (p ≡ Ordering.gt → b < a) → o ≡ p
     go Ordering.lt Ordering.lt h k e n x y z = refl
     go Ordering.lt Ordering.eq h k e n x y z = absurd (n (y refl))
@@ -189,7 +190,8 @@ m_hi b = omega arith
 narrow_mid : (s : Bool) (b : ℕ) → 0 < E b → b < 9218868437227405312
     → narrow_of (of_bits binary64 (cond s 9223372036854775808 0 + b)) ≡ round binary32 s (M b * 2 ^ (E b - 1)) (2 ^ 1074)
 narrow_mid s b p h =
-    narrow_of_value (of_bits binary64 (cond s 9223372036854775808 0 + b)) s (M b * 2 ^ (E b - 1)) (2 ^ 1074) (pow_pos 1074) (mid_value s b (λ e. no (E b) p e) h)
+    narrow_of_value (of_bits binary64 (cond s 9223372036854775808 0 + b)) s (M b * 2 ^ (E b - 1)) (2 ^ 1074) (pow_pos 1074)
+    (mid_value s b (λ e. no (E b) p e) h)
   where
     no : (e : ℕ) → 0 < e → e ≡ 0 → ⊥
     no e p z = omega arith

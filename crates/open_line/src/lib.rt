@@ -1,5 +1,7 @@
 // A line of the input that is open: a line of any length, held in 17 bytes and a count, and the
 // answer to it where it ends.
+#![tactic(auto)]
+
 ghost use Rattle.std.specs.Prelude.{◌≡◌, ◌≤◌, ◌+◌, length};
 ghost use Rattle.text.specs.Put.{Put};
 ghost use Rattle.open_line.specs.Gather.{new_line, pushed, held_answer, held_last};
@@ -54,6 +56,7 @@ pub fn answer_line(line: Line, out: &mut [u8], at: usize) -> usize
 
 // Stores the answer to the last line, which lacks its line feed: nothing where the input ended with
 // one.
+#[tactic(auto, using(crate::proofs::Last::no_last_line, crate::proofs::Last::last_line, text::specs::Laws::put_none))]
 pub fn finish(line: Line, out: &mut [u8], at: usize) -> usize
     requires { at + 512 ≤ length out.old }
     ensures put { Put out.old at (held_last line) result out.new }

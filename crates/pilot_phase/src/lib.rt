@@ -2,6 +2,8 @@
 // of symbol 0 by its ballot, turned back; the votes are counted, and the phase with the most is answered.
 // Symbols that were not heard vote too, as in the Rust, but the lead is worked out without them:
 // recordings begin before the carrier is up.
+#![tactic(auto)]
+
 ghost use Rattle.std.specs.Prelude.{◌≡◌, length};
 ghost use Rattle.params.specs.Params.{mode_from};
 ghost use Rattle.ballots.specs.Ballots.{ballots};

@@ -10,7 +10,8 @@ use lib.Seq.{take-suc}
 use Rattle.prbs.specs.Signs.{xor, stepped, after}
 
 first_ten : (d : List ℕ) → length d ≡ 11
-    → take 10 d ≡ get_or d 0 0 ∷ get_or d 1 0 ∷ get_or d 2 0 ∷ get_or d 3 0 ∷ get_or d 4 0 ∷ get_or d 5 0 ∷ get_or d 6 0 ∷ get_or d 7 0 ∷ get_or d 8 0 ∷ get_or d 9 0 ∷ []
+    → take 10 d ≡ get_or d 0 0 ∷ get_or d 1 0 ∷ get_or d 2 0 ∷ get_or d 3 0 ∷ get_or d 4 0 ∷ get_or d 5 0 ∷ get_or d 6 0 ∷ get_or d 7 0
+    ∷ get_or d 8 0 ∷ get_or d 9 0 ∷ []
 first_ten d h =
     rw (
       take-suc d 9 0 (omega arith),
@@ -26,7 +27,8 @@ first_ten d h =
     )
 
 pub shifted : (d : List ℕ) (x : ℕ) → length d ≡ 11 → x ≡ xor (get_or d 8 0) (get_or d 10 0)
-    → x ∷ get_or d 0 0 ∷ get_or d 1 0 ∷ get_or d 2 0 ∷ get_or d 3 0 ∷ get_or d 4 0 ∷ get_or d 5 0 ∷ get_or d 6 0 ∷ get_or d 7 0 ∷ get_or d 8 0 ∷ get_or d 9 0 ∷ [] ≡ stepped d
+    → x ∷ get_or d 0 0 ∷ get_or d 1 0 ∷ get_or d 2 0 ∷ get_or d 3 0 ∷ get_or d 4 0 ∷ get_or d 5 0 ∷ get_or d 6 0 ∷ get_or d 7 0 ∷ get_or d 8 0
+    ∷ get_or d 9 0 ∷ [] ≡ stepped d
 shifted d x h e = rw (e, ← first_ten d h)
 
 -- one step more

@@ -24,7 +24,8 @@ unfolding steps
 every_step [] = omega arith
 every_step (x ∷ xs) = length_from x xs ∙ omega arith
 
-pub step_at_lem : (xs : List Pair) (d : Pair) (i : ℕ) → suc i < length xs → get_or (steps xs) i d ≡ product binary32 (get_or xs (suc i) d) (conjugate (get_or xs i d))
+pub step_at_lem : (xs : List Pair) (d : Pair) (i : ℕ) → suc i < length xs
+    → get_or (steps xs) i d ≡ product binary32 (get_or xs (suc i) d) (conjugate (get_or xs i d))
 unfolding steps
 step_at_lem [] d i h = absurd (not-suc-le-zero h)
 step_at_lem (x ∷ xs) d i h = from_at x xs d i (le_of_suc-le-suc h)

@@ -72,7 +72,9 @@ root_negative b lo hi m = go (eq-or-lt_of_le (within b lo hi m))
 
 -- the patterns that come back as they are
 pub root_same : (x : Float) (b : ℕ) → T (fits binary64 x) → to_bits binary64 x ≡ b → of_bits binary64 b ≡ root_of (of_bits binary64 b) → x ≡ root_of x
-root_same x b h e r = let is : of_bits binary64 b ≡ x = ap (of_bits binary64) (sym e) ∙ of_bits-to_bits binary64 x h in subst (λ (y : Float). y ≡ root_of y) is r
+root_same x b h e r =
+    let is : of_bits binary64 b ≡ x = ap (of_bits binary64) (sym e) ∙ of_bits-to_bits binary64 x h in
+    subst (λ (y : Float). y ≡ root_of y) is r
 
 pub same_zero : of_bits binary64 0 ≡ root_of (of_bits binary64 0)
 unfolding root_of of_bits

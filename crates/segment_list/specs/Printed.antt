@@ -1,6 +1,6 @@
 -- Input that comes in pieces prints what it prints in one; how it may end.
 -- Assumes nothing.
-use Rattle.std.specs.Prelude.{ℕ, ◌+◌, Bool, true, false, cond, List, [], ◌∷◌, ◌++◌, ◌≡◌, refl, eqb, length, take, drop}
+use Rattle.std.specs.Prelude.{ℕ, Bool, true, false, cond, List, [], ◌∷◌, ◌++◌, ◌≡◌, refl, eqb, length, take, drop}
 use Rattle.std.proofs.Common.{append_assoc, append-nil, sym, ap, ◌∙◌, ne_eqb, take-append-drop}
 use Rattle.lists.specs.Lists.{joined}
 use Rattle.segment_answer.specs.Answer.{line_answer, last_answer}

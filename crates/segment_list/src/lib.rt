@@ -1,5 +1,7 @@
 // The segment list of document 01 for the lines of an input, which comes in pieces of any length: each
 // line is answered where its line feed comes, and the last where the input ends.
+#![tactic(auto)]
+
 ghost use Rattle.std.specs.Prelude.{[], ◌∷◌, ◌≡◌, ◌≤◌, ◌+◌, leb, length};
 ghost use Rattle.text.specs.Put.{PutCut};
 ghost use Rattle.segment_list.specs.Prints.{segments_prints};

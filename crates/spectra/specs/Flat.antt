@@ -30,7 +30,8 @@ pair_flat f n i h = pair_of (up_to f n) i (f i) (rw (length_up_to f n) h) ∙ ge
 -- a list of n pairs that are f's values is those values laid flat
 pub flat_own : (f : ℕ → Pair) (n : ℕ) (xs : List Float) → length xs ≡ 2 * n → ((i : ℕ) → i < n → pair_at xs i ≡ f i) → xs ≡ flat (up_to f n)
 flat_own f n xs l h =
-    ext_get_or nan xs (flat (up_to f n)) (l ∙ sym (length_flat (up_to f n) ∙ ap (λ (k : ℕ). 2 * k) (length_up_to f n))) (λ i b. entry i (dec_le i (2 * (i / 2))) b)
+    ext_get_or nan xs (flat (up_to f n)) (l ∙ sym (length_flat (up_to f n) ∙ ap (λ (k : ℕ). 2 * k) (length_up_to f n)))
+    (λ i b. entry i (dec_le i (2 * (i / 2))) b)
   where
     same : (q : ℕ) → q < n → pair_at xs q ≡ pair_at (flat (up_to f n)) q
     same q b = h q b ∙ sym (pair_flat f n q b)

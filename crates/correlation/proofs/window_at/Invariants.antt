@@ -7,7 +7,8 @@ use Rattle.correlation.proofs.window_at.Given as goal
 
 abbrev pub invariant-loop-s : goal.invariant-loop-s
 invariant-loop-s l =
-    (l.s ≤ l.count) × (l.a ≡ l.d + l.s * l.p) × (l.a + l.ng ≤ l.len + l.p) × Ahead l.sums l.ng (starts l.p l.ng l.len l.d) l.re l.im l.energy (from l.p l.ng l.len l.d l.s)
+    (l.s ≤ l.count) × (l.a ≡ l.d + l.s * l.p) × (l.a + l.ng ≤ l.len + l.p)
+    × Ahead l.sums l.ng (starts l.p l.ng l.len l.d) l.re l.im l.energy (from l.p l.ng l.len l.d l.s)
 
 abbrev pub decreases-loop-s : goal.decreases-loop-s
 decreases-loop-s l = l.count - l.s

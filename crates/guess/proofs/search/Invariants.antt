@@ -10,7 +10,8 @@ use Rattle.guess.proofs.search.Given as goal
 
 abbrev pub invariant-loop-i : goal.invariant-loop-i
 invariant-loop-i l =
-    (l.i ≤ length l.modes) × (length l.scratch ≡ length l.initial.scratch) × (search_of l.best ≡ scan (tried_mode l.samples l.guards) Nothing (take l.i l.modes))
+    (l.i ≤ length l.modes) × (length l.scratch ≡ length l.initial.scratch)
+    × (search_of l.best ≡ scan (tried_mode l.samples l.guards) Nothing (take l.i l.modes))
 
 abbrev pub decreases-loop-i : goal.decreases-loop-i
 decreases-loop-i l = length l.modes - l.i

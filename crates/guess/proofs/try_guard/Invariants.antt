@@ -15,7 +15,8 @@ use Rattle.guess.proofs.try_guard.Given as goal
 abbrev pub invariant-loop-d : goal.invariant-loop-d
 invariant-loop-d l =
     (l.d ≤ l.p)
-    × ((xs : List Float) → Holds (fft_of l.mode) xs l.sums → l.len ≡ lags_in (fft_of l.mode) xs → search_of l.best ≡ scan (offered xs l.mode l.guard) (search_of l.initial.best) (range l.d))
+    × ((xs : List Float) → Holds (fft_of l.mode) xs l.sums → l.len ≡ lags_in (fft_of l.mode) xs
+    → search_of l.best ≡ scan (offered xs l.mode l.guard) (search_of l.initial.best) (range l.d))
 
 abbrev pub decreases-loop-d : goal.decreases-loop-d
 decreases-loop-d l = l.p - l.d

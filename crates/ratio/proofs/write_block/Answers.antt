@@ -12,7 +12,11 @@ loop-i-init c = (omega arith, refl, refl)
 
 pub ratio_in-requires : goal.ratio_in-requires
 ratio_in-requires c =
-    record { some = c.requires.some; few = c.requires.few; room = omega (arith, mul-le-mul_right c.args.bins.slot c.loop-i-test.true, c.requires.spare, c.requires.room) }
+    record {
+      some = c.requires.some;
+      few = c.requires.few;
+      room = omega (arith, mul-le-mul_right c.args.bins.slot c.loop-i-test.true, c.requires.spare, c.requires.room);
+    }
 
 pub overflow_add-out : goal.overflow_add-out
 overflow_add-out c = omega (arith, c.requires.inside)

@@ -30,7 +30,8 @@ float_from_bits-result c = no_nan_bits binary32 c.guessed_bits-r.result (omega (
 
 pub returns-then-r-gt0 : goal.returns-then-r-gt0
 returns-then-r-gt0 c =
-    (c.guessed_bits-r.ensures c.if-r-gt0.true).is ∙ ap (λ (x : Float). narrow_of (root_of x)) (of_bits-to_bits binary64 c.args.x (held c.args.x c.well_formed.0.1))
+    (c.guessed_bits-r.ensures c.if-r-gt0.true).is
+    ∙ ap (λ (x : Float). narrow_of (root_of x)) (of_bits-to_bits binary64 c.args.x (held c.args.x c.well_formed.0.1))
 
 pub returns : goal.returns
 returns c = c.narrow.ensures ∙ ap narrow_of c.root.ensures

@@ -11,7 +11,10 @@ in_a_word : (g s x : ℕ) → g ≤ 1560 → s < 9007199254740992 → x < 184467
 in_a_word g s x a b c = omega arith
 
 pub overflow_add-up : goal.overflow_add-up
-overflow_add-up c = let b = below_top _ _ _ c.whole_root-p.ensures.whole c.lifted-l.ensures.high in let p = c.whole_root-p.ensures.rem in record { fits = omega arith }
+overflow_add-up c =
+    let b = below_top _ _ _ c.whole_root-p.ensures.whole c.lifted-l.ensures.high in
+    let p = c.whole_root-p.ensures.rem in
+    record { fits = omega arith }
 
 pub overflow_sub-up : goal.overflow_sub-up
 overflow_sub-up c = let b = below_top _ _ _ c.whole_root-p.ensures.whole c.lifted-l.ensures.high in let p = c.whole_root-p.ensures.rem in omega arith

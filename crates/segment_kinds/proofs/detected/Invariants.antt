@@ -10,7 +10,10 @@ use Rattle.segment_kinds.proofs.detected.Given as goal
 
 abbrev pub invariant-loop-seg : goal.invariant-loop-seg
 invariant-loop-seg l =
-    (l.seg ≤ 13) × (length l.kinds ≡ 13) × (length l.scores ≡ 13) × (l.kinds ≡ up_to (λ k. kind_of_score (kind_score l.mode l.ratios k)) l.seg ++ drop l.seg l.initial.kinds)
+    (l.seg ≤ 13)
+    × (length l.kinds ≡ 13)
+    × (length l.scores ≡ 13)
+    × (l.kinds ≡ up_to (λ k. kind_of_score (kind_score l.mode l.ratios k)) l.seg ++ drop l.seg l.initial.kinds)
     × (l.scores ≡ up_to (kind_score l.mode l.ratios) l.seg ++ drop l.seg l.initial.scores)
 
 abbrev pub decreases-loop-seg : goal.decreases-loop-seg

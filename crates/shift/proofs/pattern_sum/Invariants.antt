@@ -11,7 +11,8 @@ use Rattle.shift.proofs.pattern_sum.Given as goal
 
 abbrev pub invariant-loop-i : goal.invariant-loop-i
 invariant-loop-i l =
-    (l.i ≤ length l.bins) × (total binary32 l.sum (map (λ b. get_or l.ratios ((b + l.up) % length l.ratios) nan) (drop l.i l.bins)) ≡ sum_up l.bins l.ratios l.up)
+    (l.i ≤ length l.bins)
+    × (total binary32 l.sum (map (λ b. get_or l.ratios ((b + l.up) % length l.ratios) nan) (drop l.i l.bins)) ≡ sum_up l.bins l.ratios l.up)
 
 abbrev pub decreases-loop-i : goal.decreases-loop-i
 decreases-loop-i l = length l.bins - l.i

@@ -4,7 +4,7 @@
 use Prim.Native.Nat.{ℕ, ◌*◌, ◌/◌, ◌%◌, ◌<◌}
 use mathlib.Core.Path.{◌≡◌, refl, sym, ◌∙◌}
 use native.Mathlib.Nat.{mod-eq_of_lt, mod-zero, zero-mod, zero-div}
-use borrow.Author.Tests.{eq-eqb, ne_eqb, le-leb, lt-leb, lt-ltb}
+use borrow.Author.Tests.{ne_eqb}
 use native.Mathlib.Omega.{arith}
 use Rattle.spectra.specs.Spectra.{spectra_code}
 use Rattle.spectra.proofs.refusal.Goals as goal
@@ -32,11 +32,3 @@ returns-then-n-len c = not_whole _ _ (too_few _ _ c.if-n-eq0.false c.if-n-len.tr
 
 pub returns-then-n-w-ne0 : goal.returns-then-n-w-ne0
 returns-then-n-w-ne0 c = not_whole _ _ c.if-n-w-ne0.true
-
-pub returns-then-n-w-gt1024 : goal.returns-then-n-w-gt1024
-returns-then-n-w-gt1024 c = rw (eq-eqb _ _ c.if-n-w-ne0.false, lt-leb _ _ c.if-n-w-gt1024.true) refl
-
-pub returns : goal.returns
-returns c =
-    let some = lt-ltb 0 c.args.n (omega (arith, c.if-n-eq0.false)) in
-    rw (eq-eqb _ _ c.if-n-w-ne0.false, le-leb _ _ c.if-n-w-gt1024.false, some) refl

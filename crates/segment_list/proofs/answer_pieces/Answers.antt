@@ -1,0 +1,54 @@
+-- `segment_list::answer_pieces` meets its contract: each piece's text is stored behind those before it, until one is cut off or the last line is answered.
+-- Assumes nothing.
+use mathlib.Core.List.{[]}
+use mathlib.Core.Path.{refl, sym, ◌∙◌}
+use native.Mathlib.Omega.{arith}
+use Rattle.open_line.specs.Gather.{Gathers}
+use Rattle.open_line.specs.Gathered.{gathers_new, last_held}
+use Rattle.segment_list.specs.Fed.{takes_none, takes_slice, takes_copied, takes_cut, takes_whole, takes_all}
+use Rattle.text.specs.Laws.{put_read, cut_as, cut_whole}
+use Rattle.segment_list.proofs.answer_pieces.Goals as goal
+
+pub loop-from-init : goal.loop-from-init
+loop-from-init c = (refl, refl, omega arith, omega arith, takes_none _ _ _)
+
+pub put_cut-requires : goal.put_cut-requires
+put_cut-requires c = (omega arith, omega (arith, c.feed-fed.ensures.room (omega arith)))
+
+pub returns-in_default : goal.returns-in_default
+returns-in_default c =
+    let fed = c.feed-fed.ensures in
+    let on = fed.progress (omega arith) c.loop-from-test.true in
+    let new : Gathers c.new-held.result [] = rw c.new-held.ensures gathers_new in
+    takes_cut c.args.input.now c.loop-from.from c.feed-fed.result.used (omega arith) new c.loop-from.invariant.4 (omega arith)
+    fed.takes
+    (fed.room (omega arith))
+    (rw c.in_default.is at c.put_cut.ensures)
+
+pub loop-from-smaller : goal.loop-from-smaller
+loop-from-smaller c =
+    omega (arith, c.feed-fed.ensures.progress (omega arith) c.loop-from-test.true, c.feed-fed.ensures.within (omega arith))
+
+pub loop-from-preserved : goal.loop-from-preserved
+loop-from-preserved c =
+    let fed = c.feed-fed.ensures in
+    let on = fed.progress (omega arith) c.loop-from-test.true in
+    let whole = cut_whole (rw c.in-Whole.is at c.put_cut.ensures) in (
+      omega arith,
+      omega arith,
+      fed.within (omega arith),
+      omega (arith, whole.1),
+      takes_slice c.args.input.now c.loop-from.from c.feed-fed.result.used (omega arith) c.loop-from.invariant.4
+          (takes_copied fed.takes (fed.room (omega arith)) whole.0),
+    )
+
+pub put_cut-requires-2 : goal.put_cut-requires-2
+put_cut-requires-2 c = (omega arith, omega (arith, c.finish-n.ensures.upper_bound))
+
+pub returns : goal.returns
+returns c =
+    let held = c.loop-from.held in
+    let new : Gathers c.new-held.result [] = rw c.new-held.ensures gathers_new in
+    let read = put_read c.finish-n.ensures.put (omega (arith, c.finish-n.ensures.upper_bound)) in
+    let all = takes_whole c.args.input.now c.loop-from.from c.loop-from-test.false c.loop-from.invariant.4 in
+    takes_all new all (omega arith) (λ s g. cut_as (last_held held s g ∙ sym read) c.put_cut-2.ensures)
