@@ -2,7 +2,7 @@
 -- the claim is about something: every change of every list exists, of spectra that are moved (`applied`) and of those that are not (`in_place`);
 -- samples are spectra of one pair.
 -- Assumes nothing.
-use Rattle.std.specs.Prelude.{ℕ, ◌+◌, ◌*◌, ◌/◌, ◌%◌, ◌<◌, cond, List, ◌≡◌, refl, eqb, ℤ, pos, neg_ℤ, ◌+ℤ◌, get_or, length, Float}
+use Rattle.std.specs.Prelude.{ℕ, ◌+◌, ◌*◌, ◌/◌, ◌%◌, ◌<◌, cond, List, ◌≡◌, refl, eqb, ℤ, pos, neg_ℤ, get_or, length, Float}
 use Rattle.std.proofs.Common.{sym, ap, ◌∙◌, add-zero, mod-eq_of_lt, arith}
 use Rattle.std.proofs.Math.Arith.{digits_div, digits_mod}
 use Rattle.std.proofs.Math.IntN.{+ℤ_invr}

@@ -5,6 +5,8 @@
 //
 // A coherent segment whose upper neighbour is not coherent is closed by a continual pilot: carrier 0 of
 // that neighbour, or the edge.
+#![tactic(auto)]
+
 ghost use Rattle.std.specs.Prelude.{◌≡◌, ◌+◌, ◌*◌, ◌≤◌, ◌<◌, length};
 ghost use Rattle.params.specs.Params.{mode_from};
 ghost use Rattle.spectra.specs.Spectra.{with_pair};

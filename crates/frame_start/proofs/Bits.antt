@@ -51,14 +51,6 @@ same_bits (b ∷ bs) (c ∷ cs) n m l h g e =
     record { front = omega (arith, r.front, h.0, g.0); bits = rw (same, r.bits) }
 
 -- ---- values and words read as bits
-pub one_below : (v : Float) → lt v (plus_zero binary32) ≡ true → 1 ≡ bit_of v
-unfolding bit_of
-one_below v h = rw h
-
-pub zero_else : (v : Float) → lt v (plus_zero binary32) ≡ false → 0 ≡ bit_of v
-unfolding bit_of
-zero_else v h = rw h
-
 pub bit_below : (v : Float) → bit_of v < 2
 unfolding bit_of
 bit_below v = by (lt v (plus_zero binary32))

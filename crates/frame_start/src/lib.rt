@@ -38,6 +38,7 @@ pub enum FrameStart {
 }
 
 // The bit that a soft value reads as: a NaN and zeros of both signs are not below zero.
+#[tactic(auto, unfolding(crate::specs::FrameStart::bit_of))]
 fn bit(value: f32) -> u16
     ensures { result ≡ bit_of value }
 {

@@ -1,4 +1,3 @@
 -- Laws that belong to no one function.
 pub mod Answers
-pub mod Better
 pub mod Searching

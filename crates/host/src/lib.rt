@@ -1,6 +1,8 @@
 // The functions of the C library, which crates/host_c hands to C: a thin one for each operation. An
 // answer is given through `&mut` numbers. Each returns 0 or the refusal's number, and a refusal leaves
 // everything lent as it was. The float functions at the end refuse nothing and return their value.
+#![tactic(auto)]
+
 ghost use Rattle.std.specs.Prelude.{◌≡◌, length};
 ghost use Rattle.params.specs.Params.{mode_from};
 ghost use Rattle.root.specs.Root.{root_of};

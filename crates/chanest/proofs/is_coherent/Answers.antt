@@ -5,7 +5,6 @@ use mathlib.Core.Bool.{Bool, true, false, cond}
 use mathlib.Core.List.{List}
 use mathlib.Core.Path.{◌≡◌, refl, sym, ap, ◌∙◌}
 use native.Mathlib.Omega.{arith}
-use borrow.Author.Rules.{rules}
 use borrow.Author.Tests.{lt-ltb, le-ltb}
 use lib.Dec.{eqb}
 use lib.ListN.{get_or}
@@ -14,8 +13,7 @@ use Rattle.params.specs.declared.SegmentKind.TheVariants.{Coherent, Differential
 use Rattle.params.specs.Params.{kind_from}
 use Rattle.ofdm.specs.Band.{segment_at}
 use Rattle.chanest.specs.Grid.{coherent_at}
-use Rattle.chanest.proofs.is_coherent.Statement.{statement}
-use Rattle.chanest.proofs.is_coherent.Tie as tie
+use Rattle.chanest.proofs.is_coherent.Goals as goal
 
 coherent_code : (b : Bool) → cond b Coherent Differential ≡ Coherent → true ≡ b
 coherent_code true e = refl
@@ -26,7 +24,8 @@ differential_code true e = absurd (let z : ◌≡◌ {A = ℕ} 0 1 = cc in omega
 differential_code false e = refl
 
 -- the kind of the segment at a place, as the calls tell it
-module _ (kinds : List ℕ) {place seg : ℕ} {kind : SegmentKind} (h : place < 13) (at : seg ≡ segment_at place) (told : kind ≡ kind_from (get_or kinds seg 0)) where
+module _ (kinds : List ℕ) {place seg : ℕ} {kind : SegmentKind} (h : place < 13) (at : seg ≡ segment_at place)
+    (told : kind ≡ kind_from (get_or kinds seg 0)) where
   known : kind_from (get_or kinds (segment_at place) 0) ≡ kind
   known = ap (λ (n : ℕ). kind_from (get_or kinds n 0)) (sym at) ∙ sym told
 
@@ -36,43 +35,13 @@ module _ (kinds : List ℕ) {place seg : ℕ} {kind : SegmentKind} (h : place < 
   differential_there : kind ≡ Differential → false ≡ coherent_at kinds place
   differential_there e = rw (lt-ltb place 13 h) (differential_code (eqb (get_or kinds (segment_at place) 0) 0) (known ∙ e))
 
-returns : tie.Need-returns
-returns c = rw (le-ltb _ _ c.if1.true)
+pub returns-then-place-ge13 : goal.returns-then-place-ge13
+returns-then-place-ge13 c = rw (le-ltb _ _ c.if-place-ge13.true)
 
-segment-at-position-requires : tie.Need-segment-at-position-requires
-segment-at-position-requires c κs = search rules
+pub returns-in-Coherent : goal.returns-in-Coherent
+returns-in-Coherent c =
+    coherent_there c.args.layout.kinds c.if-place-ge13.false c.segment_at_position.ensures.0 c.kind.ensures c.in-Coherent.is
 
-kind-requires : tie.Need-kind-requires
-kind-requires c κs = search rules
-
-enum_told : tie.Need-enum-told
-enum_told c = search rules
-
-enum-told-2 : tie.Need-enum-told-2
-enum-told-2 c = search rules
-
-returns-2 : tie.Need-returns-2
-returns-2 c =
-    let k = c.before.before in
-    let g = k.before in
-    let i = g.before in
-    coherent_there i.before.before.args.layout.kinds i.if1.false g.segment-at-position.ensures.0 k.kind.ensures c.enum_told.given.1
-
-returns-3 : tie.Need-returns-3
-returns-3 c =
-    let k = c.before.before in
-    let g = k.before in
-    let i = g.before in
-    differential_there i.before.before.args.layout.kinds i.if1.false g.segment-at-position.ensures.0 k.kind.ensures c.enum-told2.given.1
-
-pub is_coherent_spec : {M : Type 1} → statement M
-is_coherent_spec =
-    tie.close
-    (tie.spec
-    returns
-    segment-at-position-requires
-    kind-requires
-    enum_told
-    enum-told-2
-    returns-2
-    returns-3)
+pub returns-in-Differential : goal.returns-in-Differential
+returns-in-Differential c =
+    differential_there c.args.layout.kinds c.if-place-ge13.false c.segment_at_position.ensures.0 c.kind.ensures c.in-Differential.is
