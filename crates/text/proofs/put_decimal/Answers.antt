@@ -18,8 +18,8 @@ unfolding decimal
 returns-then-n-lt100 c =
     let b = c.put_pair.ensures in
     record {
-        put = put_as (simp (le-ltb _ _ c.if-n-lt10.false, lt-ltb _ _ c.if-n-lt100.true)) b;
-        upper_bound = (omega (arith, b.next), omega (arith, b.next, c.if-n-lt10.false))
+      put = put_as (simp (le-ltb _ _ c.if-n-lt10.false, lt-ltb _ _ c.if-n-lt100.true)) b;
+      upper_bound = (omega (arith, b.next), omega (arith, b.next, c.if-n-lt10.false));
     }
 
 pub returns : goal.returns
@@ -27,6 +27,6 @@ returns c =
     let f = c.put_few-tens.ensures in
     let t = c.put_pair-2.ensures in
     record {
-        put = put_as (decimal_more _ c.if-n-lt100.false) (then f.put t);
-        upper_bound = (omega (arith, f.upper_bound, t.next), omega (arith, f.upper_bound, t.next, c.if-n-lt100.false))
+      put = put_as (decimal_more _ c.if-n-lt100.false) (then f.put t);
+      upper_bound = (omega (arith, f.upper_bound, t.next), omega (arith, f.upper_bound, t.next, c.if-n-lt100.false));
     }
