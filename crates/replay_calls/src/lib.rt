@@ -5,10 +5,13 @@
 //
 // A new operation stands in the crate of its part. Here `check_part` has its number, and `OPERATIONS`
 // counts it.
+#![tactic(auto)]
+
 ghost use Rattle.std.specs.Prelude.{◌≡◌, length};
 
 use replay::Longs;
 use replay_head::{broken, size_at};
+use std::io::Stdin;
 use tally::Tally;
 
 // How many operations there are; their numbers are 1 to this.
@@ -29,56 +32,62 @@ fn float_room() -> [f32; 22468]
 
 // Behind the lists stand the wide numbers, which only the functions of floats have. What was read goes
 // to the part of the operation's number.
-fn check_part(head: &[u8; 22], bytes: &[u8], more_bytes: &[u8], floats: &[f32]) -> Tally {
-    let Longs::Numbers(a, b) = replay::read_longs(short_size(head[21])) else {
+fn check_part(
+    input: Stdin,
+    head: &[u8; 22],
+    bytes: &[u8],
+    more_bytes: &[u8],
+    floats: &[f32],
+) -> Tally {
+    let Longs::Numbers(a, b) = replay::read_longs(input, short_size(head[21])) else {
         return broken();
     };
     let operation = head[0];
     match operation {
-        1..=5 | 19 => replay_layout::check_call(head, bytes),
-        6..=11 | 17..=18 => replay_acquisition::check_call(head, bytes, more_bytes, floats),
-        12 => replay_grid::check_call(head, bytes, floats),
-        13..=16 | 20..=21 => replay_floats::check_call(head, floats, a, b),
+        1..=5 | 19 => replay_layout::check_call(input, head, bytes),
+        6..=11 | 17..=18 => replay_acquisition::check_call(input, head, bytes, more_bytes, floats),
+        12 => replay_grid::check_call(input, head, bytes, floats),
+        13..=16 | 20..=21 => replay_floats::check_call(input, head, floats, a, b),
         _ => broken(),
     }
 }
 
 // The lists follow the head: two of bytes (kinds, or modes and guards), and the floats, which have one
 // byte or four each.
-fn check_floats_behind(head: &[u8; 22], bytes: &[u8], more_bytes: &[u8]) -> Tally {
+fn check_floats_behind(input: Stdin, head: &[u8; 22], bytes: &[u8], more_bytes: &[u8]) -> Tally {
     let n = size_at(head, 18);
     if 22468 < n {
         return broken();
     }
     let mut floats = float_room();
-    if !replay::read_floats(&mut floats, head[20], n) {
+    if !replay::read_floats(input, &mut floats, head[20], n) {
         return broken();
     }
-    check_part(head, bytes, more_bytes, &floats[0..n])
+    check_part(input, head, bytes, more_bytes, &floats[0..n])
 }
 
-fn check_bytes_behind(head: &[u8; 22], bytes: &[u8]) -> Tally {
+fn check_bytes_behind(input: Stdin, head: &[u8; 22], bytes: &[u8]) -> Tally {
     let n = size_at(head, 16);
     if 16 < n {
         return broken();
     }
     let mut more_bytes = [0u8; 16];
-    if !replay::read_part(&mut more_bytes, n) {
+    if !replay::read_part(input, &mut more_bytes, n) {
         return broken();
     }
-    check_floats_behind(head, bytes, &more_bytes[0..n])
+    check_floats_behind(input, head, bytes, &more_bytes[0..n])
 }
 
 // Reads the rest of a record, whose head was read: what came of its call. One that ends early, or makes
 // no sense, counts as a difference.
-pub fn check_record(head: &[u8; 22]) -> Tally {
+pub fn check_record(input: Stdin, head: &[u8; 22]) -> Tally {
     let n = size_at(head, 14);
     if 16 < n {
         return broken();
     }
     let mut bytes = [0u8; 16];
-    if !replay::read_part(&mut bytes, n) {
+    if !replay::read_part(input, &mut bytes, n) {
         return broken();
     }
-    check_bytes_behind(head, &bytes[0..n])
+    check_bytes_behind(input, head, &bytes[0..n])
 }
