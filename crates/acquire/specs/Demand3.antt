@@ -2,15 +2,15 @@
 -- two or (the shift) moved. Here is what is claimed, and no proof: proofs/Demand3.antt proves `Demand3 c s` for every change c and every move s.
 --
 -- The words, each in a file of definitions alone:
---   Change, ofSamples      which spectra are negated (of samples all or none), whether all are turned, and that all are amplified by 2 ^ gain
+--   Change, of_samples     which spectra are negated (of samples all or none), whether all are turned, and that all are amplified by 2 ^ gain
 --                          (complex/specs/Changes, where `amplified` is both parts times 2 ^ gain)
 --   Changed c len move     a list of spectra of len pairs so changed, with bin b of each put into bin `move b` (spectra/specs/Changes)
 --   Allowed                the premise: the gain is 1, or it is at most 256 and all parts are whole numbers from -32,768 to 32,768. Without a gain
 --                          there is no premise: NaNs and infinities are taken too (spectra/specs/Changes)
---   movedBin, MovedRound   bin b moved by s is bin (b + s) mod n, and a list of ratios so moved (shift/specs/Shift, shift/specs/Moves)
+--   moved_bin, MovedRound  bin b moved by s is bin (b + s) mod n, and a list of ratios so moved (shift/specs/Shift, shift/specs/Moves)
 --   InRange, BeatsAll      from -bound to bound; to have the greater score, which no NaN does or suffers (shift/specs/Moves)
 --   louder                 both parts of the correlation times the gain twice, and all else as it was (guess/specs/Louder)
---   cfoFrac                the fractional carrier offset that both parts tell (cfo_frac/specs/CfoFrac)
+--   cfo_frac               the fractional carrier offset that both parts tell (cfo_frac/specs/CfoFrac)
 -- Answers, and what is left in lent lists, are the definitions that the operations' contracts cite.
 -- Definitions only.
 use Rattle.std.specs.Prelude.{ℕ, ◌+◌, Bool, List, ◌≡◌, ℤ, pos, nat_abs, ◌+ℤ◌, length, Float}

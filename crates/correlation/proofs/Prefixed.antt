@@ -1,6 +1,7 @@
 -- What `write_prefixes` keeps: the scratch holds the prefix sums up to the samples passed, and the locals are the last of them.
 -- Assumes nothing.
-use Rattle.std.proofs.Common.{◌≡◌, ℕ, zero, suc, ◌+◌, ◌*◌, ◌<◌, ◌≤◌, List, [], ◌∷◌, length, get_or, set, sym, refl, ap, ◌∙◌, le_of_suc-le-suc, not-suc-le-zero, add-one, arith, length-set, get_or-set_other, get_or-set_same}
+use Rattle.std.proofs.Common.{◌≡◌, ℕ, zero, suc, ◌+◌, ◌*◌, ◌<◌, ◌≤◌, List, [], ◌∷◌, length, get_or, set, sym, refl, ap, ◌∙◌, le_of_suc-le-suc}
+use Rattle.std.proofs.Common.{not-suc-le-zero, add-one, arith, length-set, get_or-set_other, get_or-set_same}
 use native.Mathlib.Decide.{dec_lt}
 use lib.Ieee.{Float, Format, nan, binary32, binary64, add, mul}
 use Rattle.ieee.specs.Constants.{plus_zero, half}

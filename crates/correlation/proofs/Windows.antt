@@ -1,6 +1,8 @@
 -- What `window_at` keeps: the sums so far, with what the starts ahead will add, are the sums over all starts.
 -- Assumes nothing.
-use Rattle.std.proofs.Common.{◌≡◌, ℕ, suc, ◌+◌, ◌-◌, ◌*◌, ◌/◌, ◌<◌, ◌≤◌, Bool, false, cond, leb, List, [], ◌∷◌, length, get_or, drop, sym, refl, ap, ◌∙◌, subst, suc-le-suc, le_trans, zero-lt-suc, add-mul, mul-le-mul_left, add-one, arith, length-drop, drop_of_length-le, get_or-drop, drop-cons, le-leb}
+use Rattle.std.proofs.Common.{◌≡◌, ℕ, suc, ◌+◌, ◌-◌, ◌*◌, ◌/◌, ◌<◌, ◌≤◌, Bool, false, cond, leb, List, [], ◌∷◌, length, get_or, drop, sym, refl, ap}
+use Rattle.std.proofs.Common.{◌∙◌, subst, suc-le-suc, le_trans, zero-lt-suc, add-mul, mul-le-mul_left, add-one, arith, length-drop, drop_of_length-le}
+use Rattle.std.proofs.Common.{get_or-drop, drop-cons, le-leb}
 use native.Mathlib.Nat.{mul-div-le}
 use borrow.Author.Tests.{lt-leb}
 use lib.Ieee.{Float, binary64, add}

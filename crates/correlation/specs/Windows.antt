@@ -1,7 +1,8 @@
 -- The sums over the guards of an offset, of two lists of as many terms. Where the terms agree, so do the sums; where those of one list are those of
 -- the other, amplified, so are its sums.
 -- Assumes nothing.
-use Rattle.std.specs.Prelude.{◌≡◌, ℕ, zero, suc, ◌+◌, ◌-◌, ◌*◌, ◌/◌, ◌<◌, ◌≤◌, Bool, true, false, cond, T, List, [], ◌∷◌, ◌++◌, map, length, get_or, nat_le, slice_index_or, refl, Float}
+use Rattle.std.specs.Prelude.{◌≡◌, ℕ, zero, suc, ◌+◌, ◌-◌, ◌*◌, ◌/◌, ◌<◌, ◌≤◌, Bool, true, false, cond, T, List, [], ◌∷◌, ◌++◌, map, length, get_or}
+use Rattle.std.specs.Prelude.{nat_le, slice_index_or, refl, Float}
 use Rattle.std.proofs.Common.{zero-le, suc-le-suc, ap, ◌∙◌, le_trans, le_of_eq, le_of_suc-le-suc, not-suc-le-zero, div-lt_iff_lt-mul, arith, leb→le}
 use Rattle.std.specs.Float.{nan, Format, binary64}
 use Rattle.std.specs.Float.Ieee.{of_bits, add, sub, fits}

@@ -2,7 +2,10 @@
 -- overflows neither here nor amplified, takes the factor along. So products and sums of values at a level are at a level again.
 -- Assumes nothing.
 use Rattle.std.specs.Prelude.{◌≡◌, refl, Bool, true, false, not, ◌&&◌, ℕ, zero, suc, ◌+◌, ◌-◌, ◌*◌, ◌/◌, ◌^◌, ◌<◌, ◌≤◌, ℤ, pos, negsuc, T, leb, ltb, eqb, Float}
-use Rattle.std.proofs.Common.{sym, ap, ◌∙◌, subst, inl, inr, zero-le, add-le-add, le_refl, le_trans, le_of_eq, lt_of_lt_of_le, lt_of_le_of_lt, lt_of_not-le, not-le_of_lt, zero-lt-suc, mul-pos, mul_comm, mul_right_comm, one-mul, mul-one, zero-mul, add-mul, mul-le-mul, mul-le-mul_right, mul-le-mul_left, le_of_mul-le-mul_right, le-div_iff_mul-le, arith, leb→le, le→leb, ltb→lt, lt→ltb, eqb→eq, pow-add, pow_pos, pow_mono, shl_lt}
+use Rattle.std.proofs.Common.{sym, ap, ◌∙◌, subst, inl, inr, zero-le, add-le-add, le_refl, le_trans, le_of_eq, lt_of_lt_of_le, lt_of_le_of_lt}
+use Rattle.std.proofs.Common.{lt_of_not-le, not-le_of_lt, zero-lt-suc, mul-pos, mul_comm, mul_right_comm, one-mul, mul-one, zero-mul, add-mul}
+use Rattle.std.proofs.Common.{mul-le-mul, mul-le-mul_right, mul-le-mul_left, le_of_mul-le-mul_right, le-div_iff_mul-le, arith, leb→le, le→leb, ltb→lt}
+use Rattle.std.proofs.Common.{lt→ltb, eqb→eq, pow-add, pow_pos, pow_mono, shl_lt}
 use Rattle.std.proofs.Math.Pow.{pow-lt}
 use Rattle.std.specs.Float.{nan, inf, fin, Format}
 use Rattle.std.specs.Float.Ieee.{prec, emax, low, up, down, unlike, size, round, neg, add, sub, mul, le, fits}

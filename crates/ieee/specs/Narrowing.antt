@@ -2,7 +2,9 @@
 -- Each case that `narrow_bits` tells apart is a law, and so is its rounding with no branch.
 -- Assumes nothing.
 use Rattle.std.specs.Prelude.{◌≡◌, refl, Bool, true, false, not, cond, ◌⊎◌, T}
-use Rattle.std.proofs.Common.{sym, ap, ◌∙◌, subst, inl, inr, le_trans, le_of_eq, lt_of_lt_of_le, eq-or-lt_of_le, mul-pos, mul-le-mul, mul-le-mul_right, le-div_iff_mul-le, div-lt_iff_lt-mul, mod-eq_of_lt, arith, leb→le, eqb→eq, lit<, lit≤, pow-add, pow_pos, pow_mono, shl_lt}
+use Rattle.std.proofs.Common.{sym, ap, ◌∙◌, subst, inl, inr, le_trans, le_of_eq, lt_of_lt_of_le, eq-or-lt_of_le, mul-pos, mul-le-mul}
+use Rattle.std.proofs.Common.{mul-le-mul_right, le-div_iff_mul-le, div-lt_iff_lt-mul, mod-eq_of_lt, arith, leb→le, eqb→eq, lit<, lit≤, pow-add}
+use Rattle.std.proofs.Common.{pow_pos, pow_mono, shl_lt}
 use Prim.Native.Nat.{ℕ, zero, suc, ◌+◌, ◌-◌, ◌*◌, ◌/◌, ◌%◌, ◌^◌, ◌≤◌, ◌<◌, compare, Ordering}
 use Rattle.std.proofs.Math.Nat.{div-eq_of_lt}
 use Rattle.std.proofs.Math.Dec.{is_le, compare_is_eq, nleb→lt}

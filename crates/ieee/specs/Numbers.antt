@@ -2,7 +2,9 @@
 -- of binary digits. No float occurs here.
 -- Assumes nothing.
 use Rattle.std.specs.Prelude.{◌≡◌, refl, Bool, true, false, not, ◌&&◌, ◌⊎◌, ℕ, ◌+◌, ◌-◌, ◌*◌, ◌^◌, ◌<◌, ◌≤◌, T, ltb, eqb}
-use Rattle.std.proofs.Common.{sym, ap, ◌∙◌, subst, inl, inr, le_trans, le_of_eq, lt_of_lt_of_le, lt_of_not-le, not-le_of_lt, lt_irrefl, zero-mul, one-mul, mul_comm, mul_assoc, mul_left_comm, mul-pos, mul-le-mul_right, le-mul_of_pos_right, mul-lt-mul_of_pos_right, lt_of_mul-lt-mul_right, arith, ltb→lt, lt→ltb, nltb→le, eqb→eq, pow-add, pow_pos, pow_mono}
+use Rattle.std.proofs.Common.{sym, ap, ◌∙◌, subst, inl, inr, le_trans, le_of_eq, lt_of_lt_of_le, lt_of_not-le, not-le_of_lt, lt_irrefl, zero-mul}
+use Rattle.std.proofs.Common.{one-mul, mul_comm, mul_assoc, mul_left_comm, mul-pos, mul-le-mul_right, le-mul_of_pos_right, mul-lt-mul_of_pos_right}
+use Rattle.std.proofs.Common.{lt_of_mul-lt-mul_right, arith, ltb→lt, lt→ltb, nltb→le, eqb→eq, pow-add, pow_pos, pow_mono}
 use Rattle.std.proofs.Math.Nat.{mul-mul-mul_comm, mul-sub, eq_of_mul-eq-mul_right}
 use Rattle.std.specs.Float.Ieee.{size}
 use Rattle.std.specs.Float.Ieee.Digits.{back, size-lt}

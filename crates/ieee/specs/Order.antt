@@ -3,7 +3,8 @@
 -- its sum.
 -- Assumes nothing.
 use Rattle.std.specs.Prelude.{◌≡◌, refl, Bool, true, false, not, ◌&&◌, ◌||◌, cond, ℕ, zero, suc, ◌+◌, ◌*◌, ◌^◌, ◌<◌, ◌≤◌, ℤ, pos, T, ltb, leb, eqb, Float}
-use Rattle.std.proofs.Common.{sym, ap, ◌∙◌, subst, true≢false, le_refl, zero-mul, zero-add, add-zero, add_comm, mul-pos, mul_comm, mul-le-mul_right, le_of_mul-le-mul_right, arith, ltb→lt, lt→ltb, leb→le, le→leb, eqb→eq, T_not, lit<}
+use Rattle.std.proofs.Common.{sym, ap, ◌∙◌, subst, true≢false, le_refl, zero-mul, zero-add, add-zero, add_comm, mul-pos, mul_comm, mul-le-mul_right}
+use Rattle.std.proofs.Common.{le_of_mul-le-mul_right, arith, ltb→lt, lt→ltb, leb→le, le→leb, eqb→eq, T_not, lit<}
 use Rattle.std.proofs.lemmas.Bool.{false≢true}
 use Rattle.std.proofs.Math.Nat.{mul-mul-mul_comm}
 use Rattle.std.proofs.Math.Arith.{lt→nleb, le-zero}

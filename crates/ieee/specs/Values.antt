@@ -1,8 +1,11 @@
 -- A finite float by its value, ±a / c, in any way to write it as a fraction. The value fixes a float that a format holds; sums and products
 -- are roundings of the values' sums and products; and a value of few digits is a whole number of any unit that is fine enough.
 -- Assumes nothing.
-use Rattle.std.specs.Prelude.{◌≡◌, refl, Bool, true, false, not, ◌&&◌, cond, ℕ, zero, suc, ◌+◌, ◌-◌, ◌*◌, ◌%◌, ◌^◌, ◌<◌, ◌≤◌, ℤ, pos, negsuc, T, leb, ltb, eqb, Float}
-use Rattle.std.proofs.Common.{sym, ap, ◌∙◌, subst, le_refl, le_trans, le_of_eq, le_of_suc-le-suc, lt_of_not-le, not-le_of_lt, zero-lt-suc, mul-pos, mul_comm, mul_assoc, mul_left_comm, mul_right_comm, one-mul, mul-one, zero-mul, add-mul, lt_of_lt_of_le, mul-lt-mul_of_pos_right, lt_of_mul-lt-mul_right, arith, leb→le, ltb→lt, eqb→eq, pow-add, pow_pos}
+use Rattle.std.specs.Prelude.{◌≡◌, refl, Bool, true, false, not, ◌&&◌, cond, ℕ, zero, suc, ◌+◌, ◌-◌, ◌*◌, ◌%◌, ◌^◌, ◌<◌, ◌≤◌, ℤ, pos, negsuc, T, leb}
+use Rattle.std.specs.Prelude.{ltb, eqb, Float}
+use Rattle.std.proofs.Common.{sym, ap, ◌∙◌, subst, le_refl, le_trans, le_of_eq, le_of_suc-le-suc, lt_of_not-le, not-le_of_lt, zero-lt-suc, mul-pos}
+use Rattle.std.proofs.Common.{mul_comm, mul_assoc, mul_left_comm, mul_right_comm, one-mul, mul-one, zero-mul, add-mul, lt_of_lt_of_le}
+use Rattle.std.proofs.Common.{mul-lt-mul_of_pos_right, lt_of_mul-lt-mul_right, arith, leb→le, ltb→lt, eqb→eq, pow-add, pow_pos}
 use Rattle.std.specs.Bool.{beq}
 use Rattle.std.proofs.Math.Nat.{mul-mul-mul_comm, eq_of_mul-eq-mul_right}
 use Rattle.std.proofs.Math.Pow.{pow-lt}

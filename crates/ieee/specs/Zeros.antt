@@ -3,7 +3,8 @@
 -- starts at +0.0 never becomes -0.0.
 -- Assumes nothing.
 use Rattle.std.specs.Prelude.{◌≡◌, refl, Bool, not, ◌&&◌, ℕ, zero, suc, ◌+◌, ◌-◌, ◌*◌, ◌^◌, ◌<◌, ◌≤◌, ℤ, pos, T, ltb, Float}
-use Rattle.std.proofs.Common.{sym, ap, ◌∙◌, subst, zero-le, le_trans, le_of_eq, lt_irrefl, zero-lt-suc, mul-pos, mul_comm, mul_assoc, mul_right_comm, one-mul, zero-mul, zero-add, add-mul, arith, ltb→lt, nltb→le, lit<, pow_pos}
+use Rattle.std.proofs.Common.{sym, ap, ◌∙◌, subst, zero-le, le_trans, le_of_eq, lt_irrefl, zero-lt-suc, mul-pos, mul_comm, mul_assoc, mul_right_comm}
+use Rattle.std.proofs.Common.{one-mul, zero-mul, zero-add, add-mul, arith, ltb→lt, nltb→le, lit<, pow_pos}
 use Rattle.std.proofs.Math.Bool.{true, false, cond}
 use Rattle.std.proofs.lemmas.Bool.{false≢true}
 use Rattle.std.specs.Float.{nan, inf, fin, Format, binary32, binary64}

@@ -1,7 +1,8 @@
 -- Laws for loops that write a lent buffer from the front: entry by entry, part by part, or only the entries that pass a test.
 -- Assumes nothing.
 use Rattle.std.specs.Prelude.{ℕ, zero, suc, ◌+◌, ◌*◌, ◌-◌, ◌≤◌, ◌<◌, Bool, true, false, List, [], ◌∷◌, ◌++◌, map, ◌≡◌, refl, length, get_or, take, drop, set}
-use Rattle.std.proofs.Common.{append_assoc, append-nil, sym, ap, ◌∙◌, arith, zero-mul, suc-mul, add-zero, add-suc, le_of_suc-le-suc, not-suc-le-zero, add-one, drop_of_length-le, drop-cons, take-suc, take_at, drop_at, drop-drop, length-take-le}
+use Rattle.std.proofs.Common.{append_assoc, append-nil, sym, ap, ◌∙◌, arith, zero-mul, suc-mul, add-zero, add-suc, le_of_suc-le-suc, not-suc-le-zero}
+use Rattle.std.proofs.Common.{add-one, drop_of_length-le, drop-cons, take-suc, take_at, drop_at, drop-drop, length-take-le}
 use borrow.Rule.Slice.PartMut.{put_mid}
 use Rattle.std.proofs.lemmas.List.{set_at}
 use Rattle.std.proofs.Math.Seq.{take-length, drop-append-add}

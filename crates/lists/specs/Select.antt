@@ -2,7 +2,8 @@
 -- tests rearrange the list that they were taken from.
 -- Assumes nothing.
 use Rattle.std.specs.Prelude.{ℕ, zero, suc, ◌+◌, ◌*◌, ◌≤◌, ◌<◌, Bool, true, false, cond, List, [], ◌∷◌, ◌++◌, map, ◌≡◌, refl, length, get_or}
-use Rattle.std.proofs.Common.{suc-le-suc, append_assoc, append-nil, sym, ap, ◌∙◌, arith, le_of_suc-le-suc, not-suc-le-zero, suc-mul, zero-mul, add-zero, add-suc, add-one, length-append, get_or-append-add, ext_get_or}
+use Rattle.std.proofs.Common.{suc-le-suc, append_assoc, append-nil, sym, ap, ◌∙◌, arith, le_of_suc-le-suc, not-suc-le-zero, suc-mul, zero-mul}
+use Rattle.std.proofs.Common.{add-zero, add-suc, add-one, length-append, get_or-append-add, ext_get_or}
 use Rattle.std.proofs.lemmas.List.{map-append, get_or_at}
 use mathlib.Core.List.Perm
 use mathlib.Core.List.{Perm, Perm-prop, perm_middle, perm_append_comm}

@@ -19,7 +19,8 @@ six a b c d e f h =
 module _ (s : List ℕ) (q : is_question s ≡ true) where
   parts : (eqb (length s) 17 ≡ true) × ((is_digit (get_or s 0 0) ≡ true) × ((is_digit (get_or s 2 0) ≡ true) × (all_in is_kind_letter (drop 4 s) ≡ true)))
   unfolding is_question
-  parts = six (eqb (length s) 17) (is_digit (get_or s 0 0)) (eqb (get_or s 1 0) 44) (is_digit (get_or s 2 0)) (eqb (get_or s 3 0) 44) (all_in is_kind_letter (drop 4 s)) q
+  parts = six (eqb (length s) 17) (is_digit (get_or s 0 0)) (eqb (get_or s 1 0) 44) (is_digit (get_or s 2 0)) (eqb (get_or s 3 0) 44)
+      (all_in is_kind_letter (drop 4 s)) q
 
   pub question_size : length s ≡ 17
   question_size = eqb-true _ _ parts.0

@@ -16,7 +16,8 @@ is_kind_letter b = eqb b 67 || eqb b 68
 -- a digit, a comma, a digit, a comma, thirteen letters C or D: 17 bytes
 unfoldable pub is_question : List ℕ → Bool
 is_question s =
-    eqb (length s) 17 && (is_digit (get_or s 0 0) && (eqb (get_or s 1 0) 44 && (is_digit (get_or s 2 0) && (eqb (get_or s 3 0) 44 && all_in is_kind_letter (drop 4 s)))))
+    eqb (length s) 17 && (is_digit (get_or s 0 0) && (eqb (get_or s 1 0) 44 &&
+    (is_digit (get_or s 2 0) && (eqb (get_or s 3 0) 44 && all_in is_kind_letter (drop 4 s)))))
 
 -- the mode, the phase and the kinds, in segment-number order, that a question asks
 abbrev pub mode_asked : List ℕ → ModeNumber

@@ -27,8 +27,8 @@ whole_root n = root_digits (size n) n
 abbrev pub root_drop : ℕ → ℕ
 root_drop n = (size n + 1) / 2 - 53
 
--- The whole root in multiples of 2 ^ rootDrop. s is it cut; the next multiple is nearer where n lies above the square of the point
--- halfway, (s + 1/2) * 2 ^ rootDrop.
+-- The whole root in multiples of 2 ^ root_drop. s is it cut; the next multiple is nearer where n lies above the square of the point
+-- halfway, (s + 1/2) * 2 ^ root_drop.
 abbrev pub root_kept : ℕ → ℕ
 root_kept n =
     let k = root_drop n in

@@ -3,7 +3,10 @@
 -- and where v is greater it is greater. Squared, and times 4, that is said of whole numbers. And the root grows with n.
 -- Assumes nothing.
 use Rattle.std.specs.Prelude.{◌≡◌, refl, Bool, true, false, ◌⊎◌, ℕ, suc, ◌+◌, ◌-◌, ◌*◌, ◌/◌, ◌^◌, ◌≤◌, ◌<◌, T, ltb}
-use Rattle.std.proofs.Common.{sym, ap, ◌∙◌, subst, inl, inr, zero-le, le_trans, le_of_eq, le_of_lt, lt_of_lt_of_le, lt_of_le_of_lt, lt_of_not-le, not-le_of_lt, le_of_suc-le-suc, mul_assoc, mul-add, add-mul, mul-le-mul, mul-le-mul_left, mul-le-mul_right, mul-lt-mul_of_pos_right, lt_of_mul-lt-mul_right, le-div_iff_mul-le, eq-or-lt_of_le, arith, ltb→lt, lt→ltb, lit≤, pow-add, pow_pos, pow_mono, shl_lt}
+use Rattle.std.proofs.Common.{sym, ap, ◌∙◌, subst, inl, inr, zero-le, le_trans, le_of_eq, le_of_lt, lt_of_lt_of_le, lt_of_le_of_lt, lt_of_not-le}
+use Rattle.std.proofs.Common.{not-le_of_lt, le_of_suc-le-suc, mul_assoc, mul-add, add-mul, mul-le-mul, mul-le-mul_left, mul-le-mul_right}
+use Rattle.std.proofs.Common.{mul-lt-mul_of_pos_right, lt_of_mul-lt-mul_right, le-div_iff_mul-le, eq-or-lt_of_le, arith, ltb→lt, lt→ltb, lit≤}
+use Rattle.std.proofs.Common.{pow-add, pow_pos, pow_mono, shl_lt}
 use Rattle.std.proofs.Math.Nat.{eq_of_mul-eq-mul_right}
 use Rattle.std.proofs.Math.Arith.{lt_of_le-ne}
 use Rattle.std.proofs.Math.Pow.{shr_mono}

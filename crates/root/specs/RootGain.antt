@@ -3,7 +3,9 @@
 -- least 2 ^ -u, and so is a whole number of a finer unit again (`grain`).
 -- Assumes nothing.
 use Rattle.std.specs.Prelude.{◌≡◌, refl, Bool, false, ℕ, ◌+◌, ◌-◌, ◌*◌, ◌^◌, ◌<◌, ◌≤◌, T, leb, Float}
-use Rattle.std.proofs.Common.{sym, ap, ◌∙◌, subst, inl, inr, zero-le, le_trans, le_of_eq, lt_of_le_of_lt, lt_irrefl, one-mul, zero-mul, mul_comm, mul_assoc, mul_left_comm, mul_right_comm, add-mul, le-add_left, mul-le-mul_right, eq-zero-or-pos, arith, leb→le, pow-add, pow_pos, pow_mono}
+use Rattle.std.proofs.Common.{sym, ap, ◌∙◌, subst, inl, inr, zero-le, le_trans, le_of_eq, lt_of_le_of_lt, lt_irrefl, one-mul, zero-mul, mul_comm}
+use Rattle.std.proofs.Common.{mul_assoc, mul_left_comm, mul_right_comm, add-mul, le-add_left, mul-le-mul_right, eq-zero-or-pos, arith, leb→le}
+use Rattle.std.proofs.Common.{pow-add, pow_pos, pow_mono}
 use Rattle.std.specs.Float.{binary32, binary64}
 use Rattle.std.specs.Float.Ieee.{size, fits}
 use Rattle.std.specs.Float.Ieee.Fits.{round-fits}

@@ -2,7 +2,9 @@
 -- for whole numbers, then for an f64 of a units, which are 2 ^ -1074 each.
 -- Assumes nothing.
 use Rattle.std.specs.Prelude.{◌≡◌, refl, Bool, true, false, ℕ, zero, suc, ◌+◌, ◌-◌, ◌*◌, ◌/◌, ◌^◌, ◌≤◌, ◌<◌, T, ltb, Float}
-use Rattle.std.proofs.Common.{sym, ap, ◌∙◌, subst, inl, inr, le_trans, le_of_eq, le_of_lt, lt_of_lt_of_le, lt_of_le_of_lt, zero-mul, eq-zero-or-pos, zero-lt-suc, mul_comm, mul_assoc, mul_right_comm, mul-pos, mul-le-mul, mul-le-mul_right, arith, lit<, lit≤, pow-add, pow_pos, pow_mono, shl_lt}
+use Rattle.std.proofs.Common.{sym, ap, ◌∙◌, subst, inl, inr, le_trans, le_of_eq, le_of_lt, lt_of_lt_of_le, lt_of_le_of_lt, zero-mul, eq-zero-or-pos}
+use Rattle.std.proofs.Common.{zero-lt-suc, mul_comm, mul_assoc, mul_right_comm, mul-pos, mul-le-mul, mul-le-mul_right, arith, lit<, lit≤, pow-add}
+use Rattle.std.proofs.Common.{pow_pos, pow_mono, shl_lt}
 use Rattle.std.specs.Float.{nan, inf, fin, binary64}
 use Rattle.std.specs.Float.Ieee.{up, down, size, fits}
 use Rattle.std.specs.Float.Ieee.Digits.{size-lt, size-le, size_reaches}

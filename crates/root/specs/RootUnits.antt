@@ -2,7 +2,8 @@
 -- units, or (s + 1) * 2 ^ g where r is above s. And `root_of` by the size of its argument, and its sign.
 -- Assumes nothing.
 use Rattle.std.specs.Prelude.{◌≡◌, refl, Bool, true, false, not, ℕ, zero, suc, ◌+◌, ◌-◌, ◌*◌, ◌/◌, ◌^◌, ◌≤◌, ◌<◌, ℤ, T, ltb, Float}
-use Rattle.std.proofs.Common.{sym, ap, ◌∙◌, subst, le_trans, le_of_eq, mul_assoc, mul-add, add-mul, zero-mul, mul-le-mul_right, mul-div_cancel, arith, ltb→lt, lt→ltb, pow-add, pow_pos, shl_lt}
+use Rattle.std.proofs.Common.{sym, ap, ◌∙◌, subst, le_trans, le_of_eq, mul_assoc, mul-add, add-mul, zero-mul, mul-le-mul_right, mul-div_cancel, arith}
+use Rattle.std.proofs.Common.{ltb→lt, lt→ltb, pow-add, pow_pos, shl_lt}
 use Rattle.std.specs.Float.{nan, inf, fin, binary64}
 use Rattle.std.specs.Float.Ieee.{up, down, size, units}
 use Rattle.std.specs.Float.Ieee.Digits.{size-le}

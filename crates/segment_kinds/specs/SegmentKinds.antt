@@ -33,7 +33,8 @@ ratio_at_place mode ratios seg p = get_or ratios (place_of seg * carriers_per_se
 
 unfoldable pub kind_score : Mode → List Float → ℕ → Float
 kind_score mode ratios seg =
-    div binary32 (total binary32 minus_zero (map (ratio_at_place mode ratios seg) (kind_places mode seg))) (of_int binary32 (pos (length (kind_places mode seg))))
+    div binary32 (total binary32 minus_zero (map (ratio_at_place mode ratios seg) (kind_places mode seg)))
+    (of_int binary32 (pos (length (kind_places mode seg))))
 
 -- 1, differential, above 0.5; exactly 0.5 or NaN is 0, coherent
 abbrev pub kind_of_score : Float → ℕ
@@ -59,7 +60,8 @@ kinds_leaves (Known m) xs old = metric_leaves (total_carriers m) xs old
 -- where the call is refused, kinds and scores are zeros
 unfoldable pub kinds_answer : ModeNumber → List Float → ℕ → List ℕ
 kinds_answer Unknown xs room = up_to (λ seg. 0) 13
-kinds_answer (Known m) xs room = cond (eqb (kinds_code (Known m) (length xs) room) 0) (detected_kinds m (bin_ratios (total_carriers m) xs)) (up_to (λ seg. 0) 13)
+kinds_answer (Known m) xs room = cond (eqb (kinds_code (Known m) (length xs) room) 0) (detected_kinds m (bin_ratios (total_carriers m) xs))
+    (up_to (λ seg. 0) 13)
 
 unfoldable pub scores_answer : ModeNumber → List Float → ℕ → List Float
 scores_answer Unknown xs room = up_to (λ seg. plus_zero binary32) 13

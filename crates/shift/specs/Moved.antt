@@ -2,7 +2,8 @@
 -- found before; so if the winner beat every other shift of the range widened by the move, by divided scores, and its moved shift stays in range,
 -- the moved capture's winner is the old one moved by s, with the same sum.
 -- Assumes nothing.
-use Rattle.std.specs.Prelude.{ℕ, zero, suc, ◌+◌, ◌-◌, ◌≤◌, ◌<◌, Bool, true, false, not, cond, ◌≡◌, refl, T, ltb, ℤ, pos, negsuc, nat_abs, neg_ℤ, ◌+ℤ◌, ◌-ℤ◌, length, Float}
+use Rattle.std.specs.Prelude.{ℕ, zero, suc, ◌+◌, ◌-◌, ◌≤◌, ◌<◌, Bool, true, false, not, cond, ◌≡◌, refl, T, ltb, ℤ, pos, negsuc, nat_abs, neg_ℤ, ◌+ℤ◌}
+use Rattle.std.specs.Prelude.{◌-ℤ◌, length, Float}
 use mathlib.Core.List.{List, [], ◌∷◌, map, map_congr_left}
 use Rattle.std.proofs.Math.Path.{sym, ap}
 use Rattle.std.proofs.Common.{◌∙◌, le_refl, arith, ltb→lt, nltb→le}

@@ -2,7 +2,9 @@
 -- column has, and that one bin's pairs laid flat are spectra of one bin.
 -- Assumes nothing.
 use Rattle.std.specs.Prelude.{ℕ, zero, suc, ◌+◌, ◌*◌, ◌/◌, ◌≤◌, ◌<◌, List, [], ◌∷◌, ◌++◌, ◌≢◌, ◌≡◌, refl, get_or, set, length, take, drop, Float}
-use Rattle.std.proofs.Common.{sym, ap, ◌∙◌, arith, le_of_suc-le-suc, not-suc-le-zero, zero-mul, zero-add, suc-mul, mul-one, mul_left_comm, mul-le-mul_right, div-add-mod', length-set, length-drop, ext_get_or, get_or-set_same, get_or-set_other, get_or-take, get_or-drop, length-take-le}
+use Rattle.std.proofs.Common.{sym, ap, ◌∙◌, arith, le_of_suc-le-suc, not-suc-le-zero, zero-mul, zero-add, suc-mul, mul-one, mul_left_comm}
+use Rattle.std.proofs.Common.{mul-le-mul_right, div-add-mod', length-set, length-drop, ext_get_or, get_or-set_same, get_or-set_other, get_or-take}
+use Rattle.std.proofs.Common.{get_or-drop, length-take-le}
 use Rattle.std.proofs.Math.Decide.{dec_le}
 use Rattle.std.specs.Float.{nan}
 use Rattle.lists.specs.Lists.{up_to}
