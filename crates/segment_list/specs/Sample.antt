@@ -36,9 +36,7 @@ sample =
     ∷ [])
 
 pub sample_fed : segments_prints (ascii "1,0,CCCCCCCCCCCCC\n") ≡ sample
-unfolding segments_prints printed open_after last_answer line_answer line_code is_question list_lines
-
-unfolding segment_line edge_line refused_line segment_roles place_role decimal
+unfolding segments_prints printed open_after last_answer line_answer line_code is_question list_lines segment_line edge_line refused_line segment_roles place_role decimal
 sample_fed = refl
 
 pub sample_unfed : segments_prints (ascii "1,0,CCCCCCCCCCCCC") ≡ sample
@@ -49,7 +47,5 @@ sample_unfed = sym (feed_optional (ascii "1,0,CCCCCCCCCCCCC") (λ e. omega arith
 pub sample_refused :
     segments_prints (ascii "\n1,0,CCCCCCCCCCCCC \n4,0,CCCCCCCCCCCCC\n1,4,CCCCCCCCCCCCC\n0,9,DDDDDDDDDDDDD")
     ≡ lines ("refused,11" ∷ "refused,11" ∷ "refused,1" ∷ "refused,3" ∷ "refused,1" ∷ [])
-unfolding segments_prints printed open_after last_answer line_answer line_code is_question list_lines
-
-unfolding segment_line edge_line refused_line segment_roles place_role decimal
+unfolding segments_prints printed open_after last_answer line_answer line_code is_question list_lines segment_line edge_line refused_line segment_roles place_role decimal
 sample_refused = refl
