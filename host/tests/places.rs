@@ -117,6 +117,12 @@ struct Copies {
     root: PathBuf,
 }
 
+impl Drop for Copies {
+    fn drop(&mut self) {
+        let _ = fs::remove_dir_all(&self.root);
+    }
+}
+
 impl Copies {
     /// Copies of what `dev/declare` reads and writes.
     fn with(case: &str, changed: &str, from: &str, to: &str) -> Copies {
@@ -124,7 +130,9 @@ impl Copies {
     }
 
     fn of(files: &[&str], case: &str, changed: &str, from: &str, to: &str) -> Copies {
-        let root = Path::new(env!("CARGO_TARGET_TMPDIR")).join(case);
+        // Outside the repository, where `rt ci` takes no Rattle file that no crate has.
+        let name = format!("sillurwy-{}-{case}", std::process::id());
+        let root = std::env::temp_dir().join(name);
         for &file in files {
             let mut text = read(file);
             if file == changed {
