@@ -1,14 +1,13 @@
 -- Segments by their place in the band (ARIB STD-B31, Figure 3-32), and a carrier's FFT bin (3.14.1).
 -- Definitions only.
-use Rattle.std.specs.Prelude.{ℕ, ◌+◌, ◌*◌, ◌-◌, ◌/◌, ◌%◌, ◌<◌, cond, List, [], ◌∷◌, ◌≡◌, eqb, ltb, length, get_or}
+use Rattle.std.specs.Prelude.{ℕ, ◌+◌, ◌*◌, ◌-◌, ◌/◌, ◌%◌, ◌<◌, cond, List, [], ◌∷◌, ◌≡◌, eqb, ltb, length, get_or, Option, Some, None, Result, Ok, Err}
 use Rattle.lists.specs.Refusals.{unless}
 use Rattle.params.specs.declared.Mode.{Mode}
-use Rattle.params.specs.declared.ModeNumber.{ModeNumber}
-use Rattle.params.specs.declared.ModeNumber.TheVariants.{Known, Unknown}
-use Rattle.params.specs.Params.{carriers_per_segment, total_carriers, fft_size}
+use Rattle.params.specs.declared.Refusal.{Refusal}
+use Rattle.params.specs.declared.Refusal.TheVariants.{BadMode, Outside}
+use Rattle.params.specs.Params.{carriers_per_segment, total_carriers, fft_size, refusal_number, code_of, given}
 use Rattle.ofdm.specs.declared.CarrierPlace.{CarrierPlace}
-use Rattle.ofdm.specs.declared.BinLookup.{BinLookup}
-use Rattle.ofdm.specs.declared.BinLookup.TheVariants.{Bin, Refused}
+use Rattle.ofdm.specs.declared.FftBin.{FftBin}
 
 -- the segments from the lowest place upward
 abbrev pub order : List ℕ
@@ -59,26 +58,20 @@ pub record ZeroBand (buffer : List ℕ) : Type 0 where
   pub size : 5617 ≡ length buffer
   pub zeros : (i : ℕ) → i < 5617 → get_or buffer i 1 ≡ 0
 
--- what refuses a lookup, or 0: 1 for a bad mode; 4 for k at or above k_total
-abbrev pub bin_code : ModeNumber → ℕ → ℕ
-bin_code Unknown k = 1
-bin_code (Known m) k = unless (ltb k (total_carriers m)) 4 0
-
--- the lookup's answer for every input: the bin, or the refusal
-unfoldable pub bin_lookup : ModeNumber → ℕ → BinLookup
-bin_lookup Unknown k = Refused (bin_code Unknown k)
-bin_lookup (Known m) k = cond (eqb (bin_code (Known m) k) 0) (Bin (record { 0 = bin_of m k })) (Refused (bin_code (Known m) k))
-
--- document 01's number of an answer: 0 where there is a bin
-abbrev pub bin_number : BinLookup → ℕ
-bin_number (Bin b) = 0
-bin_number (Refused code) = code
+-- the lookup's answer for every input: the bin, or its refusal, first for a bad mode, then for k at or above k_total
+abbrev pub bin_lookup : Option Mode → ℕ → Result FftBin Refusal
+bin_lookup None k = Err BadMode
+bin_lookup (Some m) k = cond (ltb k (total_carriers m)) (Ok (record { 0 = bin_of m k })) (Err Outside)
 
 -- the bin that an answer hands back, or what was lent where it has none
-abbrev pub bin_given : BinLookup → ℕ → ℕ
-bin_given (Bin b) lent = b.0
-bin_given (Refused code) lent = lent
+abbrev pub bin_given : Result FftBin Refusal → ℕ → ℕ
+bin_given = given (λ bin. bin.0)
 
-pub record BinLookedUp (mode : ModeNumber) (k : ℕ) (r : BinLookup) : Type 0 where
-  pub number : bin_number r ≡ bin_code mode k
+-- what refuses a lookup, or 0
+abbrev pub bin_code : Option Mode → ℕ → ℕ
+bin_code None k = 1
+bin_code (Some m) k = unless (ltb k (total_carriers m)) 4 0
+
+pub record BinLookedUp (mode : Option Mode) (k : ℕ) (r : Result FftBin Refusal) : Type 0 where
+  pub number : code_of r ≡ bin_code mode k
   pub answer : r ≡ bin_lookup mode k

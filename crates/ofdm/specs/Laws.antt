@@ -1,22 +1,21 @@
 -- What callers use of the band's order: the two tables undo each other and stay within the band, and a carrier's number takes apart
 -- into its place in the band and its place in the segment. Beside it, a carrier's bin by subtraction, and the lookup's number.
 -- Assumes nothing.
-use Rattle.std.specs.Prelude.{ℕ, ◌+◌, ◌*◌, ◌-◌, ◌<◌, ◌≤◌, ◌≡◌, refl, eqb, ltb}
+use Rattle.std.specs.Prelude.{ℕ, ◌+◌, ◌*◌, ◌-◌, ◌<◌, ◌≤◌, ◌≡◌, refl, Bool, true, false, cond, eqb, ltb, Option, Some, None, Result, Ok, Err}
 use Rattle.std.proofs.Common.{ap, ◌∙◌, arith, suc-mul, mul-le-mul_right, mod-eq_of_lt, div-add-mod', div-lt_iff_lt-mul, mod-lt, ltb-true, eqb-true}
 use Rattle.std.proofs.Math.Nat.{add-mod_right}
 use Rattle.std.proofs.Math.Arith.{digits_lt, digits_div, digits_mod}
-use Rattle.lists.specs.Refusals.{numbered}
+use Rattle.lists.specs.Refusals.{unless}
 use Rattle.lists.specs.Tests.{all_below_at}
 use Rattle.params.specs.declared.Mode.{Mode}
-use Rattle.params.specs.declared.ModeNumber.{ModeNumber}
-use Rattle.params.specs.declared.ModeNumber.TheVariants.{Known, Unknown}
-use Rattle.params.specs.Params.{carriers_per_segment, total_carriers, fft_size}
+use Rattle.params.specs.declared.Refusal.{Refusal}
+use Rattle.params.specs.declared.Refusal.TheVariants.{Outside}
+use Rattle.params.specs.Params.{carriers_per_segment, total_carriers, fft_size, code_of}
 use Rattle.params.specs.Laws.{sized}
 use Rattle.ofdm.specs.declared.CarrierPlace.{CarrierPlace}
-use Rattle.ofdm.specs.declared.BinLookup.{BinLookup}
-use Rattle.ofdm.specs.declared.BinLookup.TheVariants.{Refused}
+use Rattle.ofdm.specs.declared.FftBin.{FftBin}
 use Rattle.ofdm.specs.Band.{segment_at, place_of, first_carrier, carrier_at, band_place, segment_place, Placed}
-use Rattle.ofdm.specs.Band.{center_carrier, bin_of, bin_code, bin_lookup, bin_number, BinLookedUp}
+use Rattle.ofdm.specs.Band.{center_carrier, bin_of, bin_code, bin_lookup, BinLookedUp}
 
 pub segment_below : (place : ℕ) → place < 13 → segment_at place < 13
 segment_below place h = ltb-true _ _ (all_below_at (λ p. ltb (segment_at p) 13) 13 refl place h)
@@ -76,10 +75,13 @@ bin_below m k h =
     rw e (mod-eq_of_lt (omega (arith, (sized m).within)))
 
 -- the number of a lookup's answer is the definition's code
-pub bin_number_lem : (mode : ModeNumber) (k : ℕ) → bin_number (bin_lookup mode k) ≡ bin_code mode k
-unfolding bin_lookup
-bin_number_lem Unknown k = refl
-bin_number_lem (Known m) k = numbered bin_number Refused (bin_code (Known m) k) _ refl (λ k. refl)
+pub bin_number_lem : (mode : Option Mode) (k : ℕ) → code_of (bin_lookup mode k) ≡ bin_code mode k
+bin_number_lem None k = refl
+bin_number_lem (Some m) k = by (ltb k (total_carriers m))
+  where
+    by : (b : Bool) → code_of {A = FftBin} (cond b (Ok (record { 0 = bin_of m k })) (Err Outside)) ≡ unless b 4 0
+    by true = refl
+    by false = refl
 
-pub bin_looked_up : (mode : ModeNumber) (k : ℕ) (r : BinLookup) → r ≡ bin_lookup mode k → BinLookedUp mode k r
-bin_looked_up mode k r e = record { number = ap bin_number e ∙ bin_number_lem mode k; answer = e }
+pub bin_looked_up : (mode : Option Mode) (k : ℕ) (r : Result FftBin Refusal) → r ≡ bin_lookup mode k → BinLookedUp mode k r
+bin_looked_up mode k r e = record { number = ap code_of e ∙ bin_number_lem mode k; answer = e }

@@ -7,7 +7,7 @@ ghost use Rattle.std.specs.Prelude.{◌≡◌, ◌<◌, ◌≤◌, ◌+◌, ◌*
 ghost use Rattle.params.specs.Params.{mode_from, carriers_per_segment, total_carriers};
 ghost use Rattle.ofdm.specs.Band.{segment_at, place_of, first_carrier, carrier_at, Placed, bin_of, ZeroBand, BinLookedUp};
 
-use params::{Mode, ModeNumber};
+use params::{Mode, Refusal};
 
 // A carrier's number in the band: 0 is the lowest frequency, k_total - 1 the edge.
 #[derive(Clone, Copy)]
@@ -117,24 +117,15 @@ pub fn zero_band() -> [u8; 5617]
     [0; 5617]
 }
 
-// What the lookup answers.
-#[derive(Clone, Copy)]
-pub enum BinLookup {
-    Bin(FftBin),
-    Refused(u8),
-}
-
 // The FFT bin of carrier k in a mode that is given by its number: refused by 1 for a bad mode, by
 // 4 for a carrier that the band does not have.
-pub fn bin_lookup(mode: u8, k: BandCarrier) -> BinLookup
+#[tactic(auto, using(crate::specs::Laws::bin_looked_up))]
+pub fn bin_lookup(mode: u8, k: BandCarrier) -> Result<FftBin, Refusal>
     ensures { BinLookedUp (mode_from mode) k.0 result }
 {
-    let ModeNumber::Known(m) = Mode::from_number(mode) else {
-        return BinLookup::Refused(1);
-    };
-    let number = k.0;
-    if m.total_carriers() <= number {
-        return BinLookup::Refused(4);
+    let m = Mode::try_from(mode)?;
+    if m.total_carriers() <= k.0 {
+        return Err(Refusal::Outside);
     }
-    BinLookup::Bin(carrier_bin(m, k))
+    Ok(carrier_bin(m, k))
 }

@@ -5,49 +5,81 @@
 #![tactic(auto)]
 
 ghost use Rattle.std.specs.Prelude.{◌≡◌};
-ghost use Rattle.params.specs.Params.{mode_number, mode_from, guard_from, kind_code, kind_from};
+ghost use Rattle.params.specs.Params.{mode_number, kind_code, kind_from, refusal_number, ModeTold, GuardTold, KindTold};
 ghost use Rattle.params.specs.Params.{carriers_per_segment, data_carriers_per_segment, total_carriers, fft_size};
 
-// System mode.
-#[derive(Clone, Copy)]
-pub enum Mode {
-    // 108 carriers a segment, 2k FFT.
-    M1,
-    // 216 carriers a segment, 4k FFT.
-    M2,
-    // 432 carriers a segment, 8k FFT.
-    M3,
+// Why a call is refused. The numbers are what a C host is told, and stay.
+#[derive(Clone, Copy, Debug, PartialEq, Eq)]
+pub enum Refusal {
+    // A mode that is not 1, 2 or 3.
+    BadMode = 1,
+    // Anything but thirteen kinds of 0 or 1.
+    BadKinds = 2,
+    // A phase above 3, a filter above 2.
+    BadPhase = 3,
+    // A carrier that the band does not have, an index that the window does not have.
+    Outside = 4,
+    // Not whole spectra or pairs, or more than are taken.
+    NotWhole = 5,
+    // No spectrum.
+    NoSpectra = 6,
+    // A lent list that is not as long as it must be.
+    WrongLength = 7,
+    // A bound of the shift above n/2.
+    BadBound = 8,
+    // A guard that is not 4, 8, 16 or 32.
+    BadGuard = 9,
+    // More than 64 symbols, a time window above 64.
+    TooWide = 10,
+    // A line that has not the form of a question.
+    BadForm = 11,
 }
 
-// What a number from outside says as a mode.
-#[derive(Clone, Copy)]
-pub enum ModeNumber {
-    Known(Mode),
-    Unknown,
+impl From<Refusal> for u8 {
+    ghost from_gives = { λ refusal number. number ≡ refusal_number refusal };
+
+    fn from(refusal: Refusal) -> u8 {
+        refusal as u8
+    }
+}
+
+// System mode.
+#[derive(Clone, Copy, Debug, PartialEq, Eq)]
+pub enum Mode {
+    // 108 carriers a segment, 2k FFT.
+    M1 = 1,
+    // 216 carriers a segment, 4k FFT.
+    M2 = 2,
+    // 432 carriers a segment, 8k FFT.
+    M3 = 3,
+}
+
+impl From<Mode> for u8 {
+    ghost from_gives = { λ mode number. number ≡ mode_number mode };
+
+    fn from(mode: Mode) -> u8 {
+        mode as u8
+    }
+}
+
+impl TryFrom<u8> for Mode {
+    type Error = Refusal;
+
+    ghost try_from_gives = { ModeTold };
+
+    fn try_from(number: u8) -> Result<Mode, Refusal> {
+        match number {
+            1 => Ok(Mode::M1),
+            2 => Ok(Mode::M2),
+            3 => Ok(Mode::M3),
+            _ => Err(Refusal::BadMode),
+        }
+    }
 }
 
 impl Mode {
-    // 1, 2 or 3.
-    pub fn number(self) -> u8
-        ensures { result ≡ mode_number self }
-    {
-        match self {
-            Mode::M1 => 1,
-            Mode::M2 => 2,
-            Mode::M3 => 3,
-        }
-    }
-
-    pub fn from_number(n: u8) -> ModeNumber
-        ensures { result ≡ mode_from n }
-    {
-        match n {
-            1 => ModeNumber::Known(Mode::M1),
-            2 => ModeNumber::Known(Mode::M2),
-            3 => ModeNumber::Known(Mode::M3),
-            _ => ModeNumber::Unknown,
-        }
-    }
+    // In the order of their numbers.
+    pub const ALL: [Mode; 3] = [Mode::M1, Mode::M2, Mode::M3];
 
     // Carriers of a segment, c.
     pub fn carriers_per_segment(self) -> usize
@@ -95,7 +127,7 @@ impl Mode {
 }
 
 // Guard interval ratio.
-#[derive(Clone, Copy)]
+#[derive(Clone, Copy, Debug, PartialEq, Eq)]
 pub enum GuardInterval {
     G1_4,
     G1_8,
@@ -103,49 +135,57 @@ pub enum GuardInterval {
     G1_32,
 }
 
-// What a number from outside says as a guard interval's denominator.
-#[derive(Clone, Copy)]
-pub enum GuardDenominator {
-    Known(GuardInterval),
-    Unknown,
-}
+// By its denominator.
+impl TryFrom<usize> for GuardInterval {
+    type Error = Refusal;
 
-impl GuardInterval {
-    // 4, 8, 16 or 32 is one.
-    pub fn from_denominator(d: usize) -> GuardDenominator
-        ensures { result ≡ guard_from d }
-    {
-        match d {
-            4 => GuardDenominator::Known(GuardInterval::G1_4),
-            8 => GuardDenominator::Known(GuardInterval::G1_8),
-            16 => GuardDenominator::Known(GuardInterval::G1_16),
-            32 => GuardDenominator::Known(GuardInterval::G1_32),
-            _ => GuardDenominator::Unknown,
+    ghost try_from_gives = { GuardTold };
+
+    fn try_from(denominator: usize) -> Result<GuardInterval, Refusal> {
+        match denominator {
+            4 => Ok(GuardInterval::G1_4),
+            8 => Ok(GuardInterval::G1_8),
+            16 => Ok(GuardInterval::G1_16),
+            32 => Ok(GuardInterval::G1_32),
+            _ => Err(Refusal::BadGuard),
         }
     }
 }
 
 // Modulation type of an OFDM segment.
-#[derive(Clone, Copy)]
+#[derive(Clone, Copy, Debug, PartialEq, Eq)]
 pub enum SegmentKind {
     // QPSK, 16QAM or 64QAM with scattered pilots.
-    Coherent,
+    Coherent = 0,
     // DQPSK with a continual pilot.
-    Differential,
+    Differential = 1,
+}
+
+impl From<SegmentKind> for u8 {
+    ghost from_gives = { λ kind code. code ≡ kind_code kind };
+
+    fn from(kind: SegmentKind) -> u8 {
+        kind as u8
+    }
+}
+
+impl TryFrom<u8> for SegmentKind {
+    type Error = Refusal;
+
+    ghost try_from_gives = { KindTold };
+
+    fn try_from(code: u8) -> Result<SegmentKind, Refusal> {
+        match code {
+            0 => Ok(SegmentKind::Coherent),
+            1 => Ok(SegmentKind::Differential),
+            _ => Err(Refusal::BadKinds),
+        }
+    }
 }
 
 impl SegmentKind {
-    // 0 coherent, 1 differential.
-    pub fn code(self) -> u8
-        ensures { result ≡ kind_code self }
-    {
-        match self {
-            SegmentKind::Coherent => 0,
-            SegmentKind::Differential => 1,
-        }
-    }
-
-    // The kind of a code. Whoever takes codes from outside refuses those above 1 first.
+    // The kind of a code, of any above 0 differential. No `From`, since it is not the only kind that a
+    // code could say: what comes from outside goes through `try_from`.
     pub fn from_code(code: u8) -> SegmentKind
         ensures { result ≡ kind_from code }
     {
