@@ -1,68 +1,66 @@
 -- What the tests on the way to a return make of an operation's definition: for the role map here, and the lists above.
 -- Assumes nothing.
-use Rattle.std.specs.Prelude.{ℕ, ◌≤◌, ◌<◌, Bool, cond, List, ◌≡◌, length}
-use Rattle.std.proofs.Math.Bool.{true, false}
+use Rattle.std.specs.Prelude.{ℕ, ◌≤◌, ◌<◌, List, ◌≡◌, length, get_or, Option, Some, None}
+use Rattle.std.proofs.Math.Bool.{false}
 use Rattle.std.proofs.Math.Path.{refl}
-use Rattle.std.proofs.Common.{sym, ◌∙◌, arith}
+use Rattle.std.proofs.Common.{sym, ap, ◌∙◌, arith}
+use Rattle.std.proofs.Math.ListN.{get_or-map}
 use borrow.Author.Tests.{eq-eqb, ne_eqb, lt-ltb, le-ltb}
-use Rattle.lists.specs.Refusals.{unless}
 use Rattle.params.specs.declared.Mode.{Mode}
-use Rattle.params.specs.declared.ModeNumber.{ModeNumber}
-use Rattle.params.specs.declared.ModeNumber.TheVariants.{Known, Unknown}
-use Rattle.frame.specs.Operations.{are_kinds, layout_code, SymbolAnswer, symbol_code, symbol_leaves}
-use Rattle.frame.specs.Inner.{AcceptedLayout}
+use Rattle.params.specs.declared.Refusal.{Refusal}
+use Rattle.params.specs.declared.Refusal.TheVariants.{BadMode, BadKinds}
+use Rattle.params.specs.declared.SegmentKind.{SegmentKind}
+use Rattle.params.specs.declared.SegmentKind.TheVariants.{Coherent, Differential}
+use Rattle.params.specs.Params.{kind_code, kind_from, refusal_number}
+use Rattle.frame.specs.Roles.{kind_codes}
+use Rattle.frame.specs.declared.FrameLayout.{FrameLayout}
+use Rattle.frame.specs.Operations.{are_kinds, SymbolAnswer, symbol_code, symbol_leaves}
+use Rattle.frame.specs.Inner.{Accepted, RefusedLayout}
 
--- a layout's refusal is the operation's
-kinds_tested : (good : Bool) → ◌≡◌ {A = ℕ} (cond good 0 2) 0 → good ≡ true
-kinds_tested true e = refl
-kinds_tested false e = absurd (omega arith)
+-- a kind comes back from its code
+known_again : (kind : SegmentKind) → kind ≡ kind_from (kind_code kind)
+known_again Coherent = refl
+known_again Differential = refl
 
-module _ (number : ModeNumber) (kinds : List ℕ) (code : ℕ) (m : Mode) (read : List ℕ) (a : AcceptedLayout number kinds code m read) where
-  pub kinds_good : code ≡ 0 → are_kinds kinds ≡ true
-  unfolding layout_code
-  kinds_good z = kinds_tested (are_kinds kinds) (sym (a.refusal ∙ rw (a.known z)) ∙ z)
+pub kind_again : (kinds : List SegmentKind) (seg : ℕ) → get_or kinds seg Coherent ≡ kind_from (get_or (kind_codes kinds) seg 0)
+unfolding kind_codes
+kind_again kinds seg = known_again (get_or kinds seg Coherent) ∙ ap kind_from (sym (get_or-map kind_code kinds seg Coherent))
 
-  -- a layout that was refused: its mode is bad, or its mode is good and its kinds are not
-  pub by_refusal : (P : ModeNumber → ℕ → Type 0) → P Unknown 1 → ((k : Mode) → are_kinds kinds ≡ false → P (Known k) 2) → (code ≡ 0 → ⊥) → P number code
-  unfolding layout_code
-  by_refusal P bad_mode bad_kinds h = by number a.refusal
-    where
-      tested : (k : Mode) (good : Bool) → are_kinds kinds ≡ good → code ≡ unless good 2 0 → P (Known k) code
-      tested k true g e = absurd (h e)
-      tested k false g e = rw e (bad_kinds k g)
+-- a layout that was refused: its mode is bad, or its mode is good and its kinds are not
+pub by_refusal : (kinds : List ℕ) (P : Option Mode → Refusal → Type 0) → P None BadMode → ((m : Mode) → are_kinds kinds ≡ false → P (Some m) BadKinds)
+    → (number : Option Mode) (refusal : Refusal) → RefusedLayout number kinds refusal → P number refusal
+by_refusal kinds P bad_mode bad_kinds None refusal e = rw e bad_mode
+by_refusal kinds P bad_mode bad_kinds (Some m) refusal e = rw e.1 (bad_kinds m e.0)
 
-      by : (n : ModeNumber) → code ≡ layout_code n kinds → P n code
-      by Unknown e = rw e bad_mode
-      by (Known k) e = tested k (are_kinds kinds) refl e
+module _ (kinds : List ℕ) (size : Mode → ℕ) (list : Mode → List ℕ) (phase : ℕ) (out : List ℕ) where
+  pub refused_layout : (number : Option Mode) (refusal : Refusal) → RefusedLayout number kinds refusal
+      → SymbolAnswer size list number phase kinds out (refusal_number refusal) out
+  unfolding symbol_code symbol_leaves
+  refused_layout =
+      by_refusal kinds (λ n r. SymbolAnswer size list n phase kinds out (refusal_number r) out) (record { code = refl; leaves = refl })
+      (λ m g. record { code = rw g; leaves = rw g })
 
-  module _ (size : Mode → ℕ) (list : Mode → List ℕ) (phase : ℕ) (out : List ℕ) where
-    pub refused_layout : (code ≡ 0 → ⊥) → SymbolAnswer size list number phase kinds out code out
+  module _ {number : Option Mode} {layout : FrameLayout} (a : Accepted number kinds layout) where
+    pub refused_phase : 3 < phase → SymbolAnswer size list number phase kinds out 3 out
     unfolding symbol_code symbol_leaves
-    refused_layout =
-        by_refusal (λ n c. SymbolAnswer size list n phase kinds out c out) (record { code = refl; leaves = refl })
-        (λ k g. record { code = rw g; leaves = rw g })
+    refused_phase h = record { code = rw (a.known, a.good, le-ltb phase 4 h); leaves = rw (a.known, a.good, le-ltb phase 4 h) }
 
-    module _ (z : code ≡ 0) where
-      pub refused_phase : 3 < phase → SymbolAnswer size list number phase kinds out 3 out
+    module _ (h : phase ≤ 3) where
+      in_cycle : phase < 4
+      in_cycle = omega arith
+
+      pub refused_length : (length out ≡ size layout.mode → ⊥) → SymbolAnswer size list number phase kinds out 7 out
       unfolding symbol_code symbol_leaves
-      refused_phase h = record { code = rw (a.known z, kinds_good z, le-ltb phase 4 h); leaves = rw (a.known z, kinds_good z, le-ltb phase 4 h) }
+      refused_length l =
+          record {
+            code = rw (a.known, a.good, lt-ltb phase 4 in_cycle, ne_eqb _ _ l);
+            leaves = rw (a.known, a.good, lt-ltb phase 4 in_cycle, ne_eqb _ _ l);
+          }
 
-      module _ (h : phase ≤ 3) where
-        in_cycle : phase < 4
-        in_cycle = omega arith
-
-        pub refused_length : (length out ≡ size m → ⊥) → SymbolAnswer size list number phase kinds out 7 out
-        unfolding symbol_code symbol_leaves
-        refused_length l =
-            record {
-              code = rw (a.known z, kinds_good z, lt-ltb phase 4 in_cycle, ne_eqb _ _ l);
-              leaves = rw (a.known z, kinds_good z, lt-ltb phase 4 in_cycle, ne_eqb _ _ l);
-            }
-
-        pub answered : (out' : List ℕ) → length out ≡ size m → out' ≡ list m → SymbolAnswer size list number phase kinds out 0 out'
-        unfolding symbol_code symbol_leaves
-        answered out' l w =
-            record {
-              code = rw (a.known z, kinds_good z, lt-ltb phase 4 in_cycle, eq-eqb _ _ l);
-              leaves = rw (a.known z, kinds_good z, lt-ltb phase 4 in_cycle, eq-eqb _ _ l) w;
-            }
+      pub answered : (out' : List ℕ) → length out ≡ size layout.mode → out' ≡ list layout.mode → SymbolAnswer size list number phase kinds out 0 out'
+      unfolding symbol_code symbol_leaves
+      answered out' l w =
+          record {
+            code = rw (a.known, a.good, lt-ltb phase 4 in_cycle, eq-eqb _ _ l);
+            leaves = rw (a.known, a.good, lt-ltb phase 4 in_cycle, eq-eqb _ _ l) w;
+          }

@@ -1,17 +1,17 @@
 -- What the inner functions write and take on the way to an operation's answer. No operation's contract cites these; the laws that lead
 -- from them to `Roles` are in proofs/.
 -- Definitions only.
-use Rattle.std.specs.Prelude.{ℕ, ◌≤◌, ◌<◌, false, List, [], ◌∷◌, ◌≡◌, length, get_or, take, set}
-use Rattle.lists.specs.Refusals.{unless}
+use Rattle.std.specs.Prelude.{ℕ, ◌≤◌, ◌<◌, false, true, List, [], ◌∷◌, ◌≡◌, length, get_or, take, set, Option, Some, None, Result, Ok, Err}
+use Rattle.params.specs.declared.Refusal.{Refusal}
+use Rattle.params.specs.declared.Refusal.TheVariants.{BadMode, BadKinds}
 use Rattle.params.specs.declared.Mode.{Mode}
-use Rattle.params.specs.declared.ModeNumber.{ModeNumber}
-use Rattle.params.specs.declared.ModeNumber.TheVariants.{Known}
 use Rattle.params.specs.declared.SegmentKind.{SegmentKind}
 use Rattle.params.specs.Params.{carriers_per_segment}
 use Rattle.tables.specs.declared.Positions.{Positions}
 use Rattle.tables.specs.Places.{is_sp, is_cp}
-use Rattle.frame.specs.Roles.{role_byte, first_claim}
-use Rattle.frame.specs.Operations.{are_kinds, held_kinds, layout_code, layout_mode, layout_kinds}
+use Rattle.frame.specs.declared.FrameLayout.{FrameLayout}
+use Rattle.frame.specs.Roles.{role_byte, first_claim, kind_codes}
+use Rattle.frame.specs.Operations.{are_kinds}
 
 -- the role byte of a place as far as pilots decide it
 abbrev pub pilot_byte : SegmentKind → ℕ → ℕ → ℕ
@@ -36,15 +36,22 @@ pub record InSegment (mode : Mode) (row phase : ℕ) (out : List ℕ) : Type 0 w
   pub phase_below : phase < 4
   pub room : length out ≡ carriers_per_segment mode
 
--- kinds from outside: what refuses them, and what a layout holds of them
-pub record AcceptedKinds (kinds : List ℕ) (code : ℕ) (read : List ℕ) : Type 0 where
-  pub refusal : code ≡ unless (are_kinds kinds) 2 0
-  pub held : read ≡ held_kinds kinds
+-- kinds from outside: read, or refused
+abbrev pub KindsTold : List ℕ → Result (List SegmentKind) Refusal → Type 0
+KindsTold kinds (Ok read) = (are_kinds kinds ≡ true) × (kind_codes read ≡ kinds)
+KindsTold kinds (Err refusal) = (are_kinds kinds ≡ false) × (refusal ≡ BadKinds)
 
--- a layout's refusal, what it holds for every input, and what an accepted one holds
-pub record AcceptedLayout (number : ModeNumber) (kinds : List ℕ) (code : ℕ) (mode : Mode) (read : List ℕ) : Type 0 where
-  pub refusal : code ≡ layout_code number kinds
-  pub holds_mode : mode ≡ layout_mode number
-  pub holds_kinds : read ≡ layout_kinds number kinds
-  pub known : code ≡ 0 → number ≡ Known mode
-  pub same : code ≡ 0 → read ≡ kinds
+-- a layout that was accepted
+pub record Accepted (number : Option Mode) (kinds : List ℕ) (layout : FrameLayout) : Type 0 where
+  pub known : number ≡ Some layout.mode
+  pub good : are_kinds kinds ≡ true
+  pub same : kind_codes layout.kinds ≡ kinds
+
+-- a layout that was refused: its mode is bad, or its mode is good and its kinds are not
+abbrev pub RefusedLayout : Option Mode → List ℕ → Refusal → Type 0
+RefusedLayout None kinds refusal = refusal ≡ BadMode
+RefusedLayout (Some m) kinds refusal = (are_kinds kinds ≡ false) × (refusal ≡ BadKinds)
+
+abbrev pub LayoutTold : Option Mode → List ℕ → Result FrameLayout Refusal → Type 0
+LayoutTold number kinds (Ok layout) = Accepted number kinds layout
+LayoutTold number kinds (Err refusal) = RefusedLayout number kinds refusal

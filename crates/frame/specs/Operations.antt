@@ -1,13 +1,11 @@
 -- What an operation on a layout answers and what it leaves in its lent buffer, for every input. A mode comes as a number from outside,
 -- so the first case of each definition is the number that is no mode.
 -- Definitions only.
-use Rattle.std.specs.Prelude.{ℕ, Bool, cond, ◌&&◌, List, ◌≡◌, eqb, leb, ltb, length, replicate}
+use Rattle.std.specs.Prelude.{ℕ, Bool, cond, ◌&&◌, List, ◌≡◌, eqb, leb, ltb, length, Option, Some, None}
 use Rattle.lists.specs.Refusals.{unless}
 use Rattle.lists.specs.Tests.{all_in}
 use Rattle.params.specs.declared.Mode.{Mode}
 use Rattle.params.specs.declared.Mode.TheVariants.{M1}
-use Rattle.params.specs.declared.ModeNumber.{ModeNumber}
-use Rattle.params.specs.declared.ModeNumber.TheVariants.{Known, Unknown}
 use Rattle.params.specs.Params.{total_carriers}
 use Rattle.frame.specs.Roles.{band_roles, wide}
 
@@ -15,42 +13,29 @@ use Rattle.frame.specs.Roles.{band_roles, wide}
 abbrev pub are_kinds : List ℕ → Bool
 are_kinds kinds = eqb (length kinds) 13 && all_in (λ k. leb k 1) kinds
 
--- what refuses a mode with its kinds, or 0
-unfoldable pub layout_code : ModeNumber → List ℕ → ℕ
-layout_code Unknown kinds = 1
-layout_code (Known m) kinds = unless (are_kinds kinds) 2 0
-
--- the kinds that a layout holds: those given, or thirteen zeros where they are refused
-abbrev pub held_kinds : List ℕ → List ℕ
-held_kinds kinds = cond (are_kinds kinds) kinds (replicate 13 0)
-
--- the layout of a mode and its kinds, beside a refusal too: mode 1 and thirteen zeros where the mode is bad
-unfoldable pub layout_mode : ModeNumber → Mode
-layout_mode Unknown = M1
-layout_mode (Known m) = m
-
-unfoldable pub layout_kinds : ModeNumber → List ℕ → List ℕ
-layout_kinds Unknown kinds = replicate 13 0
-layout_kinds (Known m) kinds = held_kinds kinds
+-- the mode of a layout; a number that is no mode's has none, and mode 1 stands in its place
+unfoldable pub layout_mode : Option Mode → Mode
+layout_mode None = M1
+layout_mode (Some m) = m
 
 -- an operation on a mode, a phase and kinds: 1; 2; 3; and then what its last test says in the mode
-abbrev pub symbol_tests : (Mode → ℕ) → ModeNumber → ℕ → List ℕ → ℕ
-symbol_tests last Unknown phase kinds = 1
-symbol_tests last (Known m) phase kinds = unless (are_kinds kinds) 2 (unless (ltb phase 4) 3 (last m))
+abbrev pub symbol_tests : (Mode → ℕ) → Option Mode → ℕ → List ℕ → ℕ
+symbol_tests last None phase kinds = 1
+symbol_tests last (Some m) phase kinds = unless (are_kinds kinds) 2 (unless (ltb phase 4) 3 (last m))
 
 -- where it has an output: 7 unless that has as many entries as the mode asks
-unfoldable pub symbol_code : (Mode → ℕ) → ModeNumber → ℕ → List ℕ → ℕ → ℕ
+unfoldable pub symbol_code : (Mode → ℕ) → Option Mode → ℕ → List ℕ → ℕ → ℕ
 symbol_code size mode phase kinds n = symbol_tests (λ m. unless (eqb n (size m)) 7 0) mode phase kinds
 
 -- its output: the list of the mode, or as it was where the call is refused
-unfoldable pub symbol_leaves : (Mode → ℕ) → (Mode → List ℕ) → ModeNumber → ℕ → List ℕ → List ℕ → List ℕ
-symbol_leaves size list Unknown phase kinds out = out
-symbol_leaves size list (Known m) phase kinds out = cond (eqb (symbol_code size (Known m) phase kinds (length out)) 0) (list m) out
+unfoldable pub symbol_leaves : (Mode → ℕ) → (Mode → List ℕ) → Option Mode → ℕ → List ℕ → List ℕ → List ℕ
+symbol_leaves size list None phase kinds out = out
+symbol_leaves size list (Some m) phase kinds out = cond (eqb (symbol_code size (Some m) phase kinds (length out)) 0) (list m) out
 
-pub record SymbolAnswer (size : Mode → ℕ) (list : Mode → List ℕ) (mode : ModeNumber) (phase : ℕ) (kinds out : List ℕ) (r : ℕ) (out' : List ℕ) : Type 0 where
+pub record SymbolAnswer (size : Mode → ℕ) (list : Mode → List ℕ) (mode : Option Mode) (phase : ℕ) (kinds out : List ℕ) (r : ℕ) (out' : List ℕ) : Type 0 where
   pub code : r ≡ symbol_code size mode phase kinds (length out)
   pub leaves : out' ≡ symbol_leaves size list mode phase kinds out
 
 -- the role map: k_total bytes, the roles of the wide band
-abbrev pub RoleMap : ModeNumber → ℕ → List ℕ → List ℕ → ℕ → List ℕ → Type 0
+abbrev pub RoleMap : Option Mode → ℕ → List ℕ → List ℕ → ℕ → List ℕ → Type 0
 RoleMap mode phase kinds out r out' = SymbolAnswer total_carriers (λ m. band_roles m phase (wide kinds)) mode phase kinds out r out'

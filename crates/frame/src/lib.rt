@@ -9,15 +9,15 @@
 
 ghost use Rattle.std.specs.Prelude.{◌≡◌, ◌<◌, length, get_or};
 ghost use Rattle.lists.specs.Lists.{up_to};
-ghost use Rattle.params.specs.Params.{mode_from, total_carriers, kind_from};
+ghost use Rattle.params.specs.Params.{mode_from, total_carriers, kind_from, code_of};
 ghost use Rattle.params.specs.declared.SegmentKind.TheVariants.{Coherent};
 ghost use Rattle.tables.specs.Places.{is_sp};
-ghost use Rattle.frame.specs.Roles.{role_byte, ofdm_segment, segment_roles, band_roles, wide, between};
-ghost use Rattle.frame.specs.Inner.{pilot_byte, marked, Markable, InSegment, AcceptedKinds, AcceptedLayout};
+ghost use Rattle.frame.specs.Roles.{role_byte, ofdm_segment, segment_roles, band_roles, kind_codes, wide, between};
+ghost use Rattle.frame.specs.Inner.{pilot_byte, marked, Markable, InSegment, KindsTold, LayoutTold};
 ghost use Rattle.frame.specs.Operations.{RoleMap};
 
 use ofdm::{BandPlace, Segment, SegmentPlace};
-use params::{Mode, ModeNumber, SegmentKind};
+use params::{Mode, Refusal, SegmentKind};
 use tables::Positions;
 
 // Role bytes.
@@ -36,7 +36,7 @@ pub const AC2: u8 = 5;
 pub const EDGE_CP: u8 = 6;
 
 // Kind of an AC carrier.
-#[derive(Clone, Copy)]
+#[derive(Clone, Copy, Debug, PartialEq, Eq)]
 pub enum AcKind {
     // In all segments.
     Ac1,
@@ -45,7 +45,7 @@ pub enum AcKind {
 }
 
 // Role of a band carrier in a symbol.
-#[derive(Clone, Copy)]
+#[derive(Clone, Copy, Debug, PartialEq, Eq)]
 pub enum CarrierRole {
     Data,
     // Scattered pilot.
@@ -58,20 +58,18 @@ pub enum CarrierRole {
     EdgeCp,
 }
 
-impl CarrierRole {
-    // The role as a byte of the role map, 0 to 6.
-    pub fn byte(self) -> u8
-        ensures { result ≡ role_byte self }
-    {
-        match self {
+// The role as a byte of the role map, 0 to 6.
+impl From<CarrierRole> for u8 {
+    ghost from_gives = { λ role byte. byte ≡ role_byte role };
+
+    fn from(role: CarrierRole) -> u8 {
+        match role {
             CarrierRole::Data => DATA,
             CarrierRole::Sp => SP,
             CarrierRole::Cp => CP,
             CarrierRole::Tmcc => TMCC,
-            CarrierRole::Ac(kind) => match kind {
-                AcKind::Ac1 => AC1,
-                AcKind::Ac2 => AC2,
-            },
+            CarrierRole::Ac(AcKind::Ac1) => AC1,
+            CarrierRole::Ac(AcKind::Ac2) => AC2,
             CarrierRole::EdgeCp => EDGE_CP,
         }
     }
@@ -108,10 +106,8 @@ fn pilot_byte(kind: SegmentKind, phase: u8, p: SegmentPlace) -> u8
 fn write_pilots(kind: SegmentKind, phase: u8, out: &mut [u8])
     ensures { out.new ≡ up_to (pilot_byte kind phase) (length out.old) }
 {
-    let mut p: usize = 0;
-    while p < out.len() {
+    for p in 0..out.len() {
         out[p] = pilot_byte(kind, phase, SegmentPlace(p));
-        p += 1;
     }
 }
 
@@ -147,101 +143,54 @@ pub fn segment_roles(mode: Mode, seg: Segment, kind: SegmentKind, phase: u8, out
 #[derive(Clone, Copy)]
 pub struct FrameLayout {
     pub mode: Mode,
-    pub kinds: [u8; 13],
+    pub kinds: [SegmentKind; 13],
 }
 
-// Kinds from outside: their refusal, 2 unless they are thirteen of 0 or 1, or 0; and these, or zeros.
-#[derive(Clone, Copy)]
-struct KindsRead {
-    code: u8,
-    kinds: [u8; 13],
-}
-
-// The refusal of a mode and its kinds, or 0 and the layout. Beside a refusal the layout is all coherent.
-#[derive(Clone, Copy)]
-pub struct NewLayout {
-    pub code: u8,
-    pub layout: FrameLayout,
-}
-
-fn read_kinds(kinds: &[u8]) -> KindsRead
-    ensures { AcceptedKinds kinds.now result.code result.kinds }
+// Kinds from outside: thirteen codes, each 0 or 1.
+fn read_kinds(kinds: &[u8]) -> Result<[SegmentKind; 13], Refusal>
+    ensures { KindsTold kinds.now result }
 {
     if kinds.len() != 13 {
-        return KindsRead {
-            code: 2,
-            kinds: [0; 13],
-        };
+        return Err(Refusal::BadKinds);
     }
-    let mut read = [0u8; 13];
-    let mut i: usize = 0;
-    while i < 13 {
-        let kind = kinds[i];
-        if 1 < kind {
-            return KindsRead {
-                code: 2,
-                kinds: [0; 13],
-            };
-        }
+    let mut read = [SegmentKind::Coherent; 13];
+    for i in 0..13 {
+        let kind = SegmentKind::try_from(kinds[i])?;
         read[i] = kind;
-        i += 1;
     }
-    KindsRead {
-        code: 0,
-        kinds: read,
-    }
+    Ok(read)
 }
 
 impl FrameLayout {
-    // Refused by 1 for a bad mode, by 2 unless there are thirteen kinds of 0 or 1. A refused layout
-    // holds thirteen zeros, and mode 1 where the mode is bad.
-    pub fn new(mode: u8, kinds: &[u8]) -> NewLayout
-        ensures { AcceptedLayout (mode_from mode) kinds.now result.code result.layout.mode result.layout.kinds }
+    // Refused by 1 for a bad mode, by 2 unless there are thirteen kinds of 0 or 1.
+    pub fn new(mode: u8, kinds: &[u8]) -> Result<FrameLayout, Refusal>
+        ensures { LayoutTold (mode_from mode) kinds.now result }
     {
-        let ModeNumber::Known(m) = Mode::from_number(mode) else {
-            return NewLayout {
-                code: 1,
-                layout: FrameLayout {
-                    mode: Mode::M1,
-                    kinds: [0; 13],
-                },
-            };
-        };
-        let read = read_kinds(kinds);
-        let held = read.kinds;
-        NewLayout {
-            code: read.code,
-            layout: FrameLayout {
-                mode: m,
-                kinds: held,
-            },
-        }
+        let mode = Mode::try_from(mode)?;
+        let kinds = read_kinds(kinds)?;
+        Ok(FrameLayout { mode, kinds })
     }
 
     // The kind of a segment.
     pub fn kind(self, seg: Segment) -> SegmentKind
         requires { seg.0 < 13 }
-        ensures { result ≡ kind_from (get_or self.kinds seg.0 0) }
+        ensures { result ≡ kind_from (get_or (kind_codes self.kinds) seg.0 0) }
     {
-        let kinds = self.kinds;
-        let number = seg.0;
-        SegmentKind::from_code(kinds[number])
+        self.kinds[seg.0]
     }
 
     // Role bytes of all carriers of the band, segment after segment from the lowest place.
     pub fn roles(self, phase: u8, out: &mut [u8])
         requires { (phase < 4) × (length out.old ≡ total_carriers self.mode) }
-        ensures { out.new ≡ band_roles self.mode phase (wide self.kinds) }
+        ensures { out.new ≡ band_roles self.mode phase (wide (kind_codes self.kinds)) }
     {
         let mode = self.mode;
         let c = mode.carriers_per_segment();
-        let mut place: usize = 0;
-        while place < 13 {
+        for place in 0..13 {
             let seg = ofdm::segment_at_position(BandPlace(place));
             let from = ofdm::first_carrier(mode, BandPlace(place)).0;
             let to = from + c;
             segment_roles(mode, seg, self.kind(seg), phase, &mut out[from..to]);
-            place += 1;
         }
         let edge = ofdm::first_carrier(mode, BandPlace(13)).0;
         out[edge] = EDGE_CP;
@@ -252,23 +201,16 @@ impl FrameLayout {
 //
 // Refused by 1 for a bad mode, 2 unless there are thirteen kinds of 0 or 1, 3 for a bad phase, 7
 // unless the output has k_total bytes.
-#[unsafe(no_mangle)]
-pub extern "C" fn role_map(mode: u8, phase: u8, kinds: &[u8], out: &mut [u8]) -> u8
-    ensures { RoleMap (mode_from mode) phase kinds.now out.old result out.new }
+pub fn role_map(mode: u8, phase: u8, kinds: &[u8], out: &mut [u8]) -> Result<(), Refusal>
+    ensures { RoleMap (mode_from mode) phase kinds.now out.old (code_of result) out.new }
 {
-    let new = FrameLayout::new(mode, kinds);
-    let code = new.code;
-    if code != 0 {
-        return code;
-    }
+    let layout = FrameLayout::new(mode, kinds)?;
     if 3 < phase {
-        return 3;
+        return Err(Refusal::BadPhase);
     }
-    let layout = new.layout;
-    let m = layout.mode;
-    if out.len() != m.total_carriers() {
-        return 7;
+    if out.len() != layout.mode.total_carriers() {
+        return Err(Refusal::WrongLength);
     }
     layout.roles(phase, out);
-    0
+    Ok(())
 }

@@ -1,11 +1,11 @@
 -- Segments by their place in the band (ARIB STD-B31, Figure 3-32), and a carrier's FFT bin (3.14.1).
 -- Definitions only.
-use Rattle.std.specs.Prelude.{ℕ, ◌+◌, ◌*◌, ◌-◌, ◌/◌, ◌%◌, ◌<◌, cond, List, [], ◌∷◌, ◌≡◌, eqb, ltb, length, get_or, Option, Some, None, Result, Ok, Err}
+use Rattle.std.specs.Prelude.{ℕ, ◌+◌, ◌*◌, ◌-◌, ◌/◌, ◌%◌, ◌<◌, cond, List, [], ◌∷◌, ◌≡◌, ltb, length, get_or, Option, Some, None, Result, Ok, Err}
 use Rattle.lists.specs.Refusals.{unless}
 use Rattle.params.specs.declared.Mode.{Mode}
 use Rattle.params.specs.declared.Refusal.{Refusal}
 use Rattle.params.specs.declared.Refusal.TheVariants.{BadMode, Outside}
-use Rattle.params.specs.Params.{carriers_per_segment, total_carriers, fft_size, refusal_number, code_of, given}
+use Rattle.params.specs.Params.{carriers_per_segment, total_carriers, fft_size, code_of, given}
 use Rattle.ofdm.specs.declared.CarrierPlace.{CarrierPlace}
 use Rattle.ofdm.specs.declared.FftBin.{FftBin}
 

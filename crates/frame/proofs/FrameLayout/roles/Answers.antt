@@ -3,7 +3,7 @@
 use Prim.Native.Nat.{ℕ}
 use mathlib.Core.List.{List, [], ◌∷◌, ◌++◌}
 use mathlib.Core.Path.{◌≡◌, refl, sym, ap, ◌∙◌}
-use lib.ListN.{get_or, length-set}
+use lib.ListN.{get_or}
 use Rattle.lists.specs.Lists.{joined}
 use Rattle.lists.specs.Fill.{joined_map}
 use Rattle.params.specs.declared.Mode.{Mode}
@@ -11,7 +11,7 @@ use Rattle.params.specs.declared.SegmentKind.{SegmentKind}
 use Rattle.params.specs.Params.{kind_from}
 use Rattle.ofdm.specs.Band.{order, segment_at}
 use Rattle.frame.specs.declared.CarrierRole.TheVariants.{EdgeCp}
-use Rattle.frame.specs.Roles.{role_byte, ofdm_segment, segment_roles, band_roles, wide_segment, wide}
+use Rattle.frame.specs.Roles.{role_byte, ofdm_segment, segment_roles, band_roles, wide_segment, wide, kind_codes}
 use Rattle.ofdm.specs.Bands.{begin, part_ends, part_small, part_size, again, edge_inside, finish}
 use native.Mathlib.Omega.{arith}
 use Rattle.frame.proofs.FrameLayout.roles.Invariants.{roles_of}
@@ -19,9 +19,9 @@ use Rattle.frame.proofs.FrameLayout.roles.Goals as goal
 
 module _ (mode : Mode) (phase : ℕ) (kinds : List ℕ) where
   -- the roles that the code writes for the segment at a place
-  of_segment_lem : (place seg : ℕ) (kind : SegmentKind) (part : List ℕ) → seg ≡ segment_at place → kind ≡ kind_from (get_or kinds seg 0)
+  of_segment : (place seg : ℕ) (kind : SegmentKind) (part : List ℕ) → seg ≡ segment_at place → kind ≡ kind_from (get_or kinds seg 0)
       → part ≡ segment_roles mode phase (ofdm_segment seg kind) → part ≡ roles_of mode phase kinds (segment_at place)
-  of_segment_lem place seg kind part s k p = p ∙ (rw (k, s))
+  of_segment place seg kind part s k p = p ∙ (rw (k, s))
 
   whole : (out : List ℕ) → out ≡ joined (roles_of mode phase kinds) order ++ (role_byte EdgeCp ∷ []) → out ≡ band_roles mode phase (wide kinds)
   unfolding band_roles
@@ -30,25 +30,10 @@ module _ (mode : Mode) (phase : ℕ) (kinds : List ℕ) where
 pub loop-place-init : goal.loop-place-init
 loop-place-init c = begin _ _ _ _ _ c.carriers_per_segment-c.ensures c.requires.1
 
-pub segment_at_position-seg-requires : goal.segment_at_position-seg-requires
-segment_at_position-seg-requires c = c.loop-place-test.true
-
-pub first_carrier-from-requires : goal.first_carrier-from-requires
-first_carrier-from-requires c = omega arith
-
 pub overflow_add-to : goal.overflow_add-to
 overflow_add-to c =
     let w = c.loop-place.invariant in
     omega (arith, part_ends _ _ _ _ _ _ _ w _ c.first_carrier-from.ensures c.loop-place-test.true, part_small _ _ _ _ _ _ _ w)
-
-pub kind-requires : goal.kind-requires
-kind-requires c = c.segment_at_position-seg.ensures.1
-
-pub slice_bounds-segment_roles-count : goal.slice_bounds-segment_roles-count
-slice_bounds-segment_roles-count c = omega arith
-
-pub slice_bounds-segment_roles-start : goal.slice_bounds-segment_roles-start
-slice_bounds-segment_roles-start c = omega arith
 
 pub slice_bounds-segment_roles-end : goal.slice_bounds-segment_roles-end
 slice_bounds-segment_roles-end c =
@@ -63,17 +48,10 @@ segment_roles-requires c =
       room = part_size _ _ _ _ _ _ _ c.loop-place.invariant _ c.first_carrier-from.ensures c.loop-place-test.true;
     }
 
-pub overflow_add-place : goal.overflow_add-place
-overflow_add-place c = omega arith
-
-pub loop-place-smaller : goal.loop-place-smaller
-loop-place-smaller c = omega arith
-
 pub loop-place-preserved : goal.loop-place-preserved
 loop-place-preserved c =
-    let args = c.args in
     let seg = c.segment_at_position-seg.ensures.0 in
-    let e = of_segment_lem _ _ args.self.kinds c.loop-place.place _ _ _ seg c.kind.ensures c.segment_roles.ensures in
+    let e = of_segment _ _ (kind_codes c.args.self.kinds) c.loop-place.place _ _ _ seg c.kind.ensures c.segment_roles.ensures in
     again _ _ _ _ _ _ _ c.loop-place.invariant _ c.first_carrier-from.ensures c.loop-place-test.true _ _ c.out-1.given.1 e refl
 
 pub bounds-out-edge : goal.bounds-out-edge
@@ -81,10 +59,7 @@ bounds-out-edge c =
     let w = c.loop-place.invariant in
     omega (arith, edge_inside _ _ _ _ _ _ _ w _ c.first_carrier-edge.ensures, w.same_size)
 
-pub shape_of-out : goal.shape_of-out
-shape_of-out c = simp length-set c.loop-place.invariant.same_size
-
 pub returns : goal.returns
 returns c =
-    whole _ _ c.args.self.kinds _
+    whole _ _ (kind_codes c.args.self.kinds) _
     (finish _ _ _ _ _ _ _ c.loop-place.invariant _ c.first_carrier-edge.ensures _ c.loop-place-test.false)
