@@ -1,5 +1,6 @@
 -- What a buffer that holds a band's roles gives to the lists made from it.
 -- Assumes nothing.
+use Rattle.std.proofs.Common.{Option, Some, None}
 use Prim.Native.Nat.{ℕ, ◌*◌, ◌≤◌, ◌<◌}
 use mathlib.Core.Bool.{Bool, true, false}
 use mathlib.Core.List.{List, [], ◌∷◌, ◌++◌}
@@ -11,8 +12,6 @@ use lib.Seq.{take_at}
 use Rattle.lists.specs.Lists.{range, joined, chosen}
 use Rattle.lists.specs.Fill.{joined_map, joined_same, part_of}
 use Rattle.params.specs.declared.Mode.{Mode}
-use Rattle.params.specs.declared.ModeNumber.{ModeNumber}
-use Rattle.params.specs.declared.ModeNumber.TheVariants.{Known, Unknown}
 use Rattle.params.specs.Params.{carriers_per_segment, data_carriers_per_segment, total_carriers}
 use Rattle.params.specs.Laws.{sized}
 use Rattle.ofdm.specs.Band.{order, place_of, first_carrier, ZeroBand}
@@ -93,12 +92,12 @@ module _ (mode : Mode) (phase : ℕ) (kinds : List ℕ) where
     continual_of_lem out r out' w = subst (λ (z : List ℕ). Continual z out r out') buffer_front w
 
 -- the continual list of a layout that was refused, or accepted
-module _ (number : ModeNumber) (kinds : List ℕ) (code : ℕ) (m : Mode) (read : List ℕ) (a : AcceptedLayout number kinds code m read) where
+module _ (number : Option Mode) (kinds : List ℕ) (code : ℕ) (m : Mode) (read : List ℕ) (a : AcceptedLayout number kinds code m read) where
   pub continual_refused : (out : List ℕ) → (code ≡ 0 → ⊥) → ContinualListed number kinds out (Refused code) out
   unfolding continual_list_code continual_list_answer continual_list_leaves
   continual_refused out =
-      by_refusal number kinds code m read a (λ n c. ContinualListed n kinds out (Refused c) out) (continual_listed Unknown kinds out _ _ refl refl)
-      (λ k g. continual_listed (Known k) kinds out _ _ (rw g) (rw g))
+      by_refusal number kinds code m read a (λ n c. ContinualListed n kinds out (Refused c) out) (continual_listed None kinds out _ _ refl refl)
+      (λ k g. continual_listed (Some k) kinds out _ _ (rw g) (rw g))
 
   pub continual_answered : (out : List ℕ) (r : ContinualList) (out' : List ℕ) → code ≡ 0
       → Continual (band_roles m 0 (wide read)) out r out' → ContinualListed number kinds out r out'

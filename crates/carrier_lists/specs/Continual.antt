@@ -1,15 +1,13 @@
 -- The continual list's four groups hold exactly the carriers of TMCC, AC, CP and the edge, each ascending, at any phase; and the number
 -- of its answer is the operation's code.
 -- Assumes nothing.
-use Rattle.std.specs.Prelude.{ℕ, ◌*◌, ◌-◌, true, false, cond, ◌||◌, List, [], ◌∷◌, ◌++◌, ◌≡◌, refl, eqb, length}
+use Rattle.std.specs.Prelude.{ℕ, ◌*◌, ◌-◌, true, false, cond, ◌||◌, List, [], ◌∷◌, ◌++◌, ◌≡◌, refl, eqb, length, Option, Some, None}
 use Rattle.std.proofs.Common.{sym, ap, ◌∙◌, arith, add-one, eq-eqb, ne_eqb, lit<}
 use Rattle.lists.specs.Refusals.{numbered}
 use Rattle.lists.specs.Lists.{range, select, chosen}
 use Rattle.lists.specs.Select.{select_append, select_none, Ascending, select_ascending}
 use Rattle.lists.specs.Truth.{same, same_true}
 use Rattle.params.specs.declared.Mode.{Mode}
-use Rattle.params.specs.declared.ModeNumber.{ModeNumber}
-use Rattle.params.specs.declared.ModeNumber.TheVariants.{Known, Unknown}
 use Rattle.params.specs.Params.{carriers_per_segment, total_carriers}
 use Rattle.params.specs.Laws.{sized}
 use Rattle.frame.specs.declared.AcKind.TheVariants.{Ac1, Ac2}
@@ -99,13 +97,13 @@ ac_ascending mode phase segments =
     select_ascending (λ k. has_role mode phase segments k (Ac Ac1) || has_role mode phase segments k (Ac Ac2)) (band_size mode segments)
 
 -- the number of an answer is the operation's code
-pub continual_number_lem : (mode : ModeNumber) (kinds : List ℕ) (n : ℕ)
+pub continual_number_lem : (mode : Option Mode) (kinds : List ℕ) (n : ℕ)
     → continual_number (continual_list_answer mode kinds n) ≡ continual_list_code mode kinds n
 unfolding continual_list_answer continual_list_code
-continual_number_lem Unknown kinds n = refl
-continual_number_lem (Known m) kinds n = numbered continual_number Refused (continual_list_code (Known m) kinds n) _ refl (λ k. refl)
+continual_number_lem None kinds n = refl
+continual_number_lem (Some m) kinds n = numbered continual_number Refused (continual_list_code (Some m) kinds n) _ refl (λ k. refl)
 
-pub continual_listed : (mode : ModeNumber) (kinds out : List ℕ) (r : ContinualList) (out' : List ℕ)
+pub continual_listed : (mode : Option Mode) (kinds out : List ℕ) (r : ContinualList) (out' : List ℕ)
     → r ≡ continual_list_answer mode kinds (length out) → out' ≡ continual_list_leaves mode kinds out → ContinualListed mode kinds out r out'
 continual_listed mode kinds out r out' a l =
     record { number = ap continual_number a ∙ continual_number_lem mode kinds (length out); answer = a; leaves = l }

@@ -1,7 +1,7 @@
 -- What the grid is worth: it keeps its length and every point that no pilot gives; the others depend on nothing that was lent; with no coherent
 -- segment nothing changes; and its points are the standard's pilots, scattered in the coherent segments and continual above them.
 -- Assumes nothing.
-use Rattle.std.specs.Prelude.{ℕ, ◌+◌, ◌-◌, ◌*◌, ◌/◌, ◌%◌, ◌<◌, Bool, cond, ◌&&◌, ◌||◌, ◌≡◌, ltb, get_or, length, Float}
+use Rattle.std.specs.Prelude.{ℕ, ◌+◌, ◌-◌, ◌*◌, ◌/◌, ◌%◌, ◌<◌, Bool, cond, ◌&&◌, ◌||◌, ◌≡◌, ltb, get_or, length, Float, Option, Some, None}
 use Rattle.std.proofs.Math.Bool.{true, false}
 use mathlib.Core.List.{List, [], Memᴰ}
 use Rattle.std.proofs.Math.Path.{refl, sym, ap}
@@ -12,8 +12,6 @@ use Rattle.lists.specs.Tests.{both_left, both_right}
 use Rattle.lists.specs.Refusals.{passed}
 use Rattle.lists.specs.Select.{length_up_to}
 use Rattle.params.specs.declared.Mode.{Mode}
-use Rattle.params.specs.declared.ModeNumber.{ModeNumber}
-use Rattle.params.specs.declared.ModeNumber.TheVariants.{Known, Unknown}
 use Rattle.params.specs.declared.SegmentKind.TheVariants.{Coherent, Differential}
 use Rattle.params.specs.Params.{carriers_per_segment}
 use Rattle.ofdm.specs.declared.BandCarrier.{BandCarrier}
@@ -50,13 +48,13 @@ not_coherent kinds h place (no g) = rw (le-ltb place 13 (omega arith))
 -- ---- what is kept, and what is written
 module _ (m : Mode) (kinds : List ℕ) (xs : List Float) (current : Current) (old : List Float) where
   abbrev Accepted : Type 0
-  Accepted = grid_code (Known m) kinds (length xs) current (length old) ≡ 0
+  Accepted = grid_code (Some m) kinds (length xs) current (length old) ≡ 0
 
   abbrev given : List Float
   given = grid m kinds xs current old
 
   abbrev left : List Float
-  left = grid_leaves (Known m) kinds xs current old
+  left = grid_leaves (Some m) kinds xs current old
 
   -- an accepted call was lent a whole grid
   whole : Accepted → length old ≡ 2 * grid_points m
@@ -66,9 +64,9 @@ module _ (m : Mode) (kinds : List ℕ) (xs : List Float) (current : Current) (ol
   -- what is left is the grid, or what was lent
   either : (P : List Float → Type 0) → (Accepted → P given) → P old → P left
   unfolding grid_leaves
-  either P new same = by (eqb (grid_code (Known m) kinds (length xs) current (length old)) 0) refl
+  either P new same = by (eqb (grid_code (Some m) kinds (length xs) current (length old)) 0) refl
     where
-      by : (b : Bool) → eqb (grid_code (Known m) kinds (length xs) current (length old)) 0 ≡ b → P (cond b given old)
+      by : (b : Bool) → eqb (grid_code (Some m) kinds (length xs) current (length old)) 0 ≡ b → P (cond b given old)
       by true e = new (eqb-true _ _ e)
       by false e = same
 
@@ -121,17 +119,17 @@ module _ (m : Mode) (kinds : List ℕ) (xs : List Float) (current : Current) (ol
   all_differential h = none_coherent (λ place. not_coherent kinds h place (dec_lt place 13))
 
 -- a number that is no mode changes nothing either
-pub no_mode : (kinds : List ℕ) (xs : List Float) (current : Current) (old : List Float) → grid_leaves Unknown kinds xs current old ≡ old
+pub no_mode : (kinds : List ℕ) (xs : List Float) (current : Current) (old : List Float) → grid_leaves None kinds xs current old ≡ old
 unfolding grid_leaves
 no_mode kinds xs current old = refl
 
 -- a time window of 0 counts as 1
-pub window_of_0 : (mode : ModeNumber) (kinds : List ℕ) (xs : List Float) (phase index : ℕ) (old : List Float)
+pub window_of_0 : (mode : Option Mode) (kinds : List ℕ) (xs : List Float) (phase index : ℕ) (old : List Float)
     → grid_leaves mode kinds xs (record { phase = phase; index = index; w = 0 }) old
     ≡ grid_leaves mode kinds xs (record { phase = phase; index = index; w = 1 }) old
 unfolding grid_leaves grid_code window_code
-window_of_0 Unknown kinds xs phase index old = refl
-window_of_0 (Known m) kinds xs phase index old = refl
+window_of_0 None kinds xs phase index old = refl
+window_of_0 (Some m) kinds xs phase index old = refl
 
 -- where no spectrum of the window has a carrier's pilot, the carrier is taken as the current spectrum has it, sign and all
 pub raw_taken : (m : Mode) (xs : List Float) (current : Current) (k : BandCarrier) (o : Offsets) → in_window (window_of m xs current) o ≡ []
@@ -141,15 +139,15 @@ raw_taken m xs current k o e = rw e
 
 -- what pilots give depends on nothing that was lent
 pub same_written : (m : Mode) (kinds : List ℕ) (xs : List Float) (current : Current) (old other : List Float) (i : ℕ) → i < grid_points m
-    → length other ≡ length old → grid_code (Known m) kinds (length xs) current (length old) ≡ 0 → (is_scattered m kinds i || is_closing m kinds i) ≡ true
-    → pair_at (grid_leaves (Known m) kinds xs current old) i ≡ pair_at (grid_leaves (Known m) kinds xs current other) i
+    → length other ≡ length old → grid_code (Some m) kinds (length xs) current (length old) ≡ 0 → (is_scattered m kinds i || is_closing m kinds i) ≡ true
+    → pair_at (grid_leaves (Some m) kinds xs current old) i ≡ pair_at (grid_leaves (Some m) kinds xs current other) i
 same_written m kinds xs current old other i h l a s = by (is_scattered m kinds i) refl s
   where
-    b : grid_code (Known m) kinds (length xs) current (length other) ≡ 0
+    b : grid_code (Some m) kinds (length xs) current (length other) ≡ 0
     b = rw l a
 
     by : (c : Bool) → is_scattered m kinds i ≡ c → (c || is_closing m kinds i) ≡ true
-        → pair_at (grid_leaves (Known m) kinds xs current old) i ≡ pair_at (grid_leaves (Known m) kinds xs current other) i
+        → pair_at (grid_leaves (Some m) kinds xs current old) i ≡ pair_at (grid_leaves (Some m) kinds xs current other) i
     by true e g = scattered_written m kinds xs current old i h a e ∙ sym (scattered_written m kinds xs current other i h b e)
     by false e g = closing_written m kinds xs current old i h a e g ∙ sym (closing_written m kinds xs current other i h b e g)
 

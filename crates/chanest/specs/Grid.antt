@@ -1,12 +1,10 @@
 -- The pilot grid (chanest.rs, the first two parts of `estimate`; document 01, "The grid"): every third carrier of the coherent segments, and
 -- the continual pilot next above a coherent segment whose upper neighbour is not coherent. The rest of the grid keeps its contents.
 -- Definitions only.
-use Rattle.std.specs.Prelude.{ℕ, ◌+◌, ◌-◌, ◌*◌, ◌/◌, ◌%◌, Bool, cond, ◌&&◌, List, ◌≡◌, eqb, leb, ltb, get_or, length, Float}
+use Rattle.std.specs.Prelude.{ℕ, ◌+◌, ◌-◌, ◌*◌, ◌/◌, ◌%◌, Bool, cond, ◌&&◌, List, ◌≡◌, eqb, leb, ltb, get_or, length, Float, Option, Some, None}
 use Rattle.lists.specs.Lists.{up_to}
 use Rattle.lists.specs.Refusals.{unless}
 use Rattle.params.specs.declared.Mode.{Mode}
-use Rattle.params.specs.declared.ModeNumber.{ModeNumber}
-use Rattle.params.specs.declared.ModeNumber.TheVariants.{Known, Unknown}
 use Rattle.params.specs.Params.{carriers_per_segment, total_carriers}
 use Rattle.ofdm.specs.declared.BandCarrier.{BandCarrier}
 use Rattle.ofdm.specs.Band.{segment_at}
@@ -84,17 +82,17 @@ window_code mode floats current n =
     unless (ltb current.phase 4) 3 (spectra_code len floats
     (unless (ltb current.index (spectra_in len floats)) 4 (unless (leb current.w 64) 10 (unless (eqb n (2 * grid_points mode)) 7 0))))
 
-unfoldable pub grid_code : ModeNumber → List ℕ → ℕ → Current → ℕ → ℕ
-grid_code Unknown kinds floats current n = 1
-grid_code (Known m) kinds floats current n = unless (are_kinds kinds) 2 (window_code m floats current n)
+unfoldable pub grid_code : Option Mode → List ℕ → ℕ → Current → ℕ → ℕ
+grid_code None kinds floats current n = 1
+grid_code (Some m) kinds floats current n = unless (are_kinds kinds) 2 (window_code m floats current n)
 
 -- the lent grid at exit
-unfoldable pub grid_leaves : ModeNumber → List ℕ → List Float → Current → List Float → List Float
-grid_leaves Unknown kinds xs current old = old
-grid_leaves (Known m) kinds xs current old =
-    cond (eqb (grid_code (Known m) kinds (length xs) current (length old)) 0) (grid m kinds xs current old) old
+unfoldable pub grid_leaves : Option Mode → List ℕ → List Float → Current → List Float → List Float
+grid_leaves None kinds xs current old = old
+grid_leaves (Some m) kinds xs current old =
+    cond (eqb (grid_code (Some m) kinds (length xs) current (length old)) 0) (grid m kinds xs current old) old
 
-pub record GridEstimated (mode : ModeNumber) (kinds : List ℕ) (xs : List Float) (current : Current) (old : List Float) (r : ℕ) (now : List Float)
+pub record GridEstimated (mode : Option Mode) (kinds : List ℕ) (xs : List Float) (current : Current) (old : List Float) (r : ℕ) (now : List Float)
     : Type 0 where
   pub code : r ≡ grid_code mode kinds (length xs) current (length old)
   pub leaves : now ≡ grid_leaves mode kinds xs current old

@@ -1,5 +1,6 @@
 -- What the tests on the way to a return make of the definition of `detect_sp_phase`.
 -- Assumes nothing.
+use Rattle.std.proofs.Common.{Option, Some, None}
 use Prim.Native.Nat.{ℕ, ◌*◌, ◌/◌, ◌%◌, ◌≤◌, ◌<◌}
 use mathlib.Core.Bool.{true, false, ◌&&◌}
 use mathlib.Core.List.{List}
@@ -13,8 +14,6 @@ use lib.Ieee.{Float}
 use Rattle.lists.specs.Refusals.{passed}
 use Rattle.lists.specs.Tests.{both_left, both_right}
 use Rattle.params.specs.declared.Mode.{Mode}
-use Rattle.params.specs.declared.ModeNumber.{ModeNumber}
-use Rattle.params.specs.declared.ModeNumber.TheVariants.{Known, Unknown}
 use Rattle.params.specs.Params.{total_carriers}
 use Rattle.spectra.specs.Spectra.{spectra_in}
 use Rattle.frame.specs.Inner.{AcceptedLayout}
@@ -84,21 +83,21 @@ module _ (code : ℕ) (m : Mode) (n : ℕ) where
       none_refused h = rw (z, ← sizes, eq-eqb (n % (2 * k)) 0 w, le-leb (n / (2 * k)) 1024 h)
 
 -- ---- what an answer, counts and a lead make
-made : (number : ModeNumber) (kinds : List ℕ) (xs : List Float) {r : PilotAnswer} → r.answer ≡ phase_answer number kinds xs
+made : (number : Option Mode) (kinds : List ℕ) (xs : List Float) {r : PilotAnswer} → r.answer ≡ phase_answer number kinds xs
     → r.counts ≡ counts_answer number kinds xs → r.lead ≡ lead_answer number kinds xs → PhaseDetected number kinds xs r
 made number kinds xs a c l = record { number = ap phase_number a ∙ phase_number_lem number kinds xs; answer = a; counts = c; lead = l }
 
 -- ---- a refused call, in which nothing was counted
-refused_by : (number : ModeNumber) (kinds : List ℕ) (xs : List Float) {n : ℕ} {r : PilotAnswer} → n ≡ phase_code number kinds (length xs)
+refused_by : (number : Option Mode) (kinds : List ℕ) (xs : List Float) {n : ℕ} {r : PilotAnswer} → n ≡ phase_code number kinds (length xs)
     → (n ≡ 0 → ⊥) → Nothing (Refused n) r → PhaseDetected number kinds xs r
 unfolding phase_code counts_answer phase_answer lead_answer
-refused_by Unknown kinds xs e h a = made Unknown kinds xs (a.same ∙ ap Refused e) a.counts a.lead
-refused_by (Known m) kinds xs {n} e h a =
-    let no : eqb (phase_code (Known m) kinds (length xs)) 0 ≡ false = ap (λ (z : ℕ). eqb z 0) (sym e) ∙ ne_eqb n 0 h in
-    made (Known m) kinds xs (a.same ∙ rw no (ap Refused e)) (a.counts ∙ rw no) (a.lead ∙ rw no)
+refused_by None kinds xs e h a = made None kinds xs (a.same ∙ ap Refused e) a.counts a.lead
+refused_by (Some m) kinds xs {n} e h a =
+    let no : eqb (phase_code (Some m) kinds (length xs)) 0 ≡ false = ap (λ (z : ℕ). eqb z 0) (sym e) ∙ ne_eqb n 0 h in
+    made (Some m) kinds xs (a.same ∙ rw no (ap Refused e)) (a.counts ∙ rw no) (a.lead ∙ rw no)
 
 -- ---- the layout's number and the length's are the operation's
-module _ {number : ModeNumber} {kinds : List ℕ} (xs : List Float) {code : ℕ} {m : Mode} {read : List ℕ} (a : AcceptedLayout number kinds code m read)
+module _ {number : Option Mode} {kinds : List ℕ} (xs : List Float) {code : ℕ} {m : Mode} {read : List ℕ} (a : AcceptedLayout number kinds code m read)
     {n : ℕ} (e : n ≡ length_code code m (length xs)) where
   code_is : n ≡ phase_code number kinds (length xs)
   unfolding phase_code
@@ -133,6 +132,6 @@ module _ {number : ModeNumber} {kinds : List ℕ} (xs : List Float) {code : ℕ}
     accepted r =
         let c = both.0 in
         let known = a.known c in
-        let ok : eqb (phase_code (Known m) kinds (length xs)) 0 ≡ true = eq-eqb _ 0 (rw known at (sym code_is ∙ z)) in
+        let ok : eqb (phase_code (Some m) kinds (length xs)) 0 ≡ true = eq-eqb _ 0 (rw known at (sym code_is ∙ z)) in
         let s = rw (a.same c) at r in
-        rw known (made (Known m) kinds xs (s.answer ∙ rw ok) (s.counts ∙ rw ok) (s.lead ∙ rw ok))
+        rw known (made (Some m) kinds xs (s.answer ∙ rw ok) (s.counts ∙ rw ok) (s.lead ∙ rw ok))

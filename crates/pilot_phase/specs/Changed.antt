@@ -2,10 +2,9 @@
 -- quarter, or all are amplified by a power of two on whole-number parts, every symbol's ballot is as before (ballots/specs/Changed). So phase,
 -- share, counts and lead, which are functions of the ballots, are the same, bit for bit.
 -- Assumes nothing.
-use Rattle.std.specs.Prelude.{ℕ, List, ◌≡◌, eqb, length, Float}
+use Rattle.std.specs.Prelude.{ℕ, List, ◌≡◌, eqb, length, Float, Some}
 use Rattle.std.proofs.Math.Bool.{cond}
 use Rattle.params.specs.declared.Mode.{Mode}
-use Rattle.params.specs.declared.ModeNumber.TheVariants.{Known}
 use Rattle.params.specs.Params.{total_carriers}
 use Rattle.complex.specs.Changes.{Change}
 use Rattle.spectra.specs.Changes.{Changed, Allowed}
@@ -22,19 +21,19 @@ module _ (c : Change) (mode : Mode) (kinds : List ℕ) (xs ys : List Float) (A :
   same : ballots mode kinds ys ≡ ballots mode kinds xs
   same = changed_ballots c mode kinds xs ys A h
 
-  pub changed_phase : phase_answer (Known mode) kinds ys ≡ phase_answer (Known mode) kinds xs
+  pub changed_phase : phase_answer (Some mode) kinds ys ≡ phase_answer (Some mode) kinds xs
   unfolding phase_answer detected
   changed_phase = λ i.
-      let code = phase_code (Known mode) kinds (h.long i) in
+      let code = phase_code (Some mode) kinds (h.long i) in
       cond (eqb code 0) (Detected (cond (eqb (length (pilots mode kinds 0)) 0) NoScatteredPilots (phase_of (same i)))) (Refused code)
 
-  pub changed_counts : counts_answer (Known mode) kinds ys ≡ counts_answer (Known mode) kinds xs
+  pub changed_counts : counts_answer (Some mode) kinds ys ≡ counts_answer (Some mode) kinds xs
   unfolding counts_answer
   changed_counts = λ i.
-      cond (eqb (phase_code (Known mode) kinds (h.long i)) 0)
+      cond (eqb (phase_code (Some mode) kinds (h.long i)) 0)
       (cond (eqb (length (pilots mode kinds 0)) 0) no_counts (counts_of (votes (same i))))
       no_counts
 
-  pub changed_lead : lead_answer (Known mode) kinds ys ≡ lead_answer (Known mode) kinds xs
+  pub changed_lead : lead_answer (Some mode) kinds ys ≡ lead_answer (Some mode) kinds xs
   unfolding lead_answer
   changed_lead = λ i. lead_beside (changed_phase i) (lead_of (heard_counts (same i)))

@@ -1,7 +1,7 @@
 -- What document 01 says of the pilot phase: every spectrum votes, so the four counts add up to the number of spectra; zero spectra give phase 3,
 -- share 0.0. The phase of symbol 0 is handed on to symbol j, and the counts of two captures, one behind the other, come from the counts of each.
 -- Assumes nothing.
-use Rattle.std.specs.Prelude.{ℕ, suc, ◌+◌, ◌-◌, ◌%◌, ◌≤◌, ◌<◌, Bool, true, false, cond, List, [], ◌∷◌, ◌++◌, ◌≡◌, refl, eqb, get_or, length, Float}
+use Rattle.std.specs.Prelude.{ℕ, suc, ◌+◌, ◌-◌, ◌%◌, ◌≤◌, ◌<◌, Bool, true, false, cond, List, [], ◌∷◌, ◌++◌, ◌≡◌, refl, eqb, get_or, length, Float, Option, Some, None}
 use Rattle.std.proofs.Common.{sym, ap, ◌∙◌, mod-lt, arith, eq-eqb, ne_eqb, eqb-true, lit<}
 use Rattle.std.proofs.lemmas.Bool.{eqb-false}
 use Rattle.std.specs.Float.{binary32}
@@ -13,8 +13,6 @@ use Rattle.lists.specs.Select.{length_up_to, get_or_up_to, up_to_same}
 use Rattle.lists.specs.Tests.{agree}
 use Rattle.params.specs.declared.Mode.{Mode}
 use Rattle.params.specs.declared.Mode.TheVariants.{M1, M2, M3}
-use Rattle.params.specs.declared.ModeNumber.{ModeNumber}
-use Rattle.params.specs.declared.ModeNumber.TheVariants.{Known, Unknown}
 use Rattle.params.specs.Params.{total_carriers}
 use Rattle.spectra.specs.Spectra.{spectra_in}
 use Rattle.frame.specs.Operations.{are_kinds}
@@ -30,16 +28,16 @@ use Rattle.pilot_phase.specs.PilotPhase.{phase_at, vote_of, votes_from, votes, c
 use Rattle.pilot_phase.specs.PilotPhase.{phase_of, phase_code, detected, phase_answer, no_counts, counts_answer, phase_number, beside_given}
 
 -- ---- an answer's number is the code
-pub phase_number_lem : (mode : ModeNumber) (kinds : List ℕ) (xs : List Float) → phase_number (phase_answer mode kinds xs) ≡ phase_code mode kinds (length xs)
+pub phase_number_lem : (mode : Option Mode) (kinds : List ℕ) (xs : List Float) → phase_number (phase_answer mode kinds xs) ≡ phase_code mode kinds (length xs)
 unfolding phase_answer phase_code
-phase_number_lem Unknown kinds xs = refl
-phase_number_lem (Known m) kinds xs = numbered phase_number Refused (phase_code (Known m) kinds (length xs)) _ refl (λ k. refl)
+phase_number_lem None kinds xs = refl
+phase_number_lem (Some m) kinds xs = numbered phase_number Refused (phase_code (Some m) kinds (length xs)) _ refl (λ k. refl)
 
 -- so a refusal's number is never 0
-pub refused_number : (mode : ModeNumber) (kinds : List ℕ) (xs : List Float) (n : ℕ) → phase_answer mode kinds xs ≡ Refused n → n ≡ 0 → ⊥
+pub refused_number : (mode : Option Mode) (kinds : List ℕ) (xs : List Float) (n : ℕ) → phase_answer mode kinds xs ≡ Refused n → n ≡ 0 → ⊥
 unfolding phase_answer
-refused_number Unknown kinds xs n e z = let o : ◌≡◌ {A = ℕ} 1 0 = cc in omega arith
-refused_number (Known m) kinds xs n e z = let code = phase_code (Known m) kinds (length xs) in by code (eqb code 0) refl e
+refused_number None kinds xs n e z = let o : ◌≡◌ {A = ℕ} 1 0 = cc in omega arith
+refused_number (Some m) kinds xs n e z = let code = phase_code (Some m) kinds (length xs) in by code (eqb code 0) refl e
   where
     by : (code : ℕ) (accepted : Bool) → eqb code 0 ≡ accepted → cond accepted (Detected (detected m kinds xs)) (Refused code) ≡ Refused n → ⊥
     by code true t e = let o : ◌≡◌ {A = ℕ} 1 0 = cc in omega arith
@@ -109,17 +107,17 @@ unfolding counts_of
 counts_at vs v h = get_or_up_to (count_of vs) 4 v 0 h
 
 -- and the answer's counts add up to the number of spectra, where there are pilots
-pub counts_total : (mode : Mode) (kinds : List ℕ) (xs : List Float) → phase_code (Known mode) kinds (length xs) ≡ 0
-    → eqb (length (pilots mode kinds 0)) 0 ≡ false → let counts = counts_answer (Known mode) kinds xs in
+pub counts_total : (mode : Mode) (kinds : List ℕ) (xs : List Float) → phase_code (Some mode) kinds (length xs) ≡ 0
+    → eqb (length (pilots mode kinds 0)) 0 ≡ false → let counts = counts_answer (Some mode) kinds xs in
     get_or counts 0 0 + get_or counts 1 0 + get_or counts 2 0 + get_or counts 3 0 ≡ spectra_in (total_carriers mode) (length xs)
 unfolding counts_answer counts_of
 counts_total mode kinds xs accepted some = rw (accepted, some) (votes_total 0 (ballots mode kinds xs) ∙ ballots_length mode kinds xs)
 
 -- without scattered pilots nothing is counted, whatever the number of spectra
 pub none_counted : (mode : Mode) (kinds : List ℕ) (xs : List Float) → eqb (length (pilots mode kinds 0)) 0 ≡ true
-    → counts_answer (Known mode) kinds xs ≡ no_counts
+    → counts_answer (Some mode) kinds xs ≡ no_counts
 unfolding counts_answer
-none_counted mode kinds xs none = rw none (by (eqb (phase_code (Known mode) kinds (length xs)) 0))
+none_counted mode kinds xs none = rw none (by (eqb (phase_code (Some mode) kinds (length xs)) 0))
   where
     by : (accepted : Bool) → cond accepted no_counts no_counts ≡ no_counts
     by true = refl
@@ -199,7 +197,7 @@ counts_append bs cs =
 
 -- ---- zero spectra: phase 3 with share 0.0
 pub no_spectra : (m : Mode) (kinds : List ℕ) → are_kinds kinds ≡ true → eqb (length (pilots m kinds 0)) 0 ≡ false
-    → phase_answer (Known m) kinds [] ≡ Detected (Phase 3 (plus_zero binary32))
+    → phase_answer (Some m) kinds [] ≡ Detected (Phase 3 (plus_zero binary32))
 unfolding phase_answer detected phase_of phase_code counts_of count_of votes_from ballots won_by share_of div of_int of_bits
 no_spectra M1 kinds k e = rw (k, e)
 no_spectra M2 kinds k e = rw (k, e)

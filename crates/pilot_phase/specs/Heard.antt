@@ -2,7 +2,7 @@
 -- 0; where every symbol is heard it is the lead of the four counts, as it was before; and it never exceeds the number of symbols heard.
 -- Assumes nothing.
 use Prim.Native.Nat.{ℕ, zero, suc, ◌+◌, ◌≤◌, ◌<◌, zero-le}
-use Rattle.std.specs.Prelude.{Bool, ◌≡◌, eqb, get_or, Float}
+use Rattle.std.specs.Prelude.{Bool, ◌≡◌, eqb, get_or, Float, Option, Some, None}
 use Rattle.std.proofs.Math.Bool.{true, false, cond}
 use mathlib.Core.List.{List, [], ◌∷◌, ◌++◌}
 use Rattle.std.proofs.Math.Path.{refl, sym, ap}
@@ -16,8 +16,6 @@ use Rattle.lists.specs.Lists.{up_to}
 use Rattle.lists.specs.Select.{length_up_to}
 use Rattle.lists.specs.Tests.{count_below}
 use Rattle.params.specs.declared.Mode.{Mode}
-use Rattle.params.specs.declared.ModeNumber.{ModeNumber}
-use Rattle.params.specs.declared.ModeNumber.TheVariants.{Known, Unknown}
 use Rattle.params.specs.Params.{total_carriers}
 use Rattle.spectra.specs.Spectra.{spectra_in}
 use Rattle.ballots.specs.declared.Ballot.{Ballot}
@@ -97,18 +95,18 @@ module _ (mode : Mode) (kinds : List ℕ) (xs : List Float) where
   symbols = spectra_in (total_carriers mode) (length xs)
 
   -- where no symbol is heard, it is 0
-  pub silent_lead : ((j : ℕ) → j < spectra_in (total_carriers mode) (length xs) → heard_at mode kinds xs j ≡ false) → lead_answer (Known mode) kinds xs ≡ 0
+  pub silent_lead : ((j : ℕ) → j < spectra_in (total_carriers mode) (length xs) → heard_at mode kinds xs j ≡ false) → lead_answer (Some mode) kinds xs ≡ 0
   unfolding lead_answer counts_of count_of ballots
   silent_lead h =
       let none : lead_of (heard_counts (ballots mode kinds xs)) ≡ 0 =
       ap (λ (vs : List ℕ). lead_of (counts_of vs)) (none_heard (ballot_at mode kinds xs) symbols h) ∙ no_lead in
-      beside (λ lead. lead ≡ 0) (phase_answer (Known mode) kinds xs) _ none refl
+      beside (λ lead. lead ≡ 0) (phase_answer (Some mode) kinds xs) _ none refl
 
   -- where every symbol is heard, it is the lead of the four counts
   pub heard_lead : ((j : ℕ) → j < spectra_in (total_carriers mode) (length xs) → heard_at mode kinds xs j ≡ true)
-      → lead_answer (Known mode) kinds xs ≡ lead_of (counts_answer (Known mode) kinds xs)
+      → lead_answer (Some mode) kinds xs ≡ lead_of (counts_answer (Some mode) kinds xs)
   unfolding lead_answer phase_answer detected phase_of counts_answer ballots
-  heard_lead h = by (eqb (phase_code (Known mode) kinds (length xs)) 0) (eqb (length (pilots mode kinds 0)) 0)
+  heard_lead h = by (eqb (phase_code (Some mode) kinds (length xs)) 0) (eqb (length (pilots mode kinds 0)) 0)
     where
       bs : List Ballot
       bs = ballots mode kinds xs
@@ -117,7 +115,7 @@ module _ (mode : Mode) (kinds : List ℕ) (xs : List Float) where
       same = ap (λ (vs : List ℕ). lead_of (counts_of vs)) (all_heard (ballot_at mode kinds xs) symbols h)
 
       by : (accepted none : Bool)
-          → lead_beside (cond accepted (Detected (cond none NoScatteredPilots (phase_of bs))) (Refused (phase_code (Known mode) kinds (length xs))))
+          → lead_beside (cond accepted (Detected (cond none NoScatteredPilots (phase_of bs))) (Refused (phase_code (Some mode) kinds (length xs))))
           (lead_of (heard_counts bs))
           ≡ lead_of (cond accepted (cond none no_counts (counts_of (votes bs))) no_counts)
       by true true = sym no_lead
@@ -125,9 +123,9 @@ module _ (mode : Mode) (kinds : List ℕ) (xs : List Float) where
       by false none = sym no_lead
 
   -- it never exceeds the number of symbols heard
-  pub lead_few : lead_answer (Known mode) kinds xs ≤ count_below (heard_at mode kinds xs) (spectra_in (total_carriers mode) (length xs))
+  pub lead_few : lead_answer (Some mode) kinds xs ≤ count_below (heard_at mode kinds xs) (spectra_in (total_carriers mode) (length xs))
   unfolding lead_answer ballots
-  lead_few = beside (λ lead. lead ≤ count) (phase_answer (Known mode) kinds xs) _ few zero-le
+  lead_few = beside (λ lead. lead ≤ count) (phase_answer (Some mode) kinds xs) _ few zero-le
     where
       count : ℕ
       count = count_below (heard_at mode kinds xs) symbols
@@ -142,11 +140,11 @@ module _ (mode : Mode) (kinds : List ℕ) (xs : List Float) where
           omega (arith, lead_below (counts_of vs), n, count_few vs won, heard_length (ballot_at mode kinds xs) symbols)
 
 -- where no phase is told, it is 0: without scattered pilots, and beside a refusal. With 0 lent, `pilots_given` is 0 exactly there
-pub no_phase_lead : (mode : ModeNumber) (kinds : List ℕ) (xs : List Float) → pilots_given (phase_answer mode kinds xs) 0 ≡ 0
+pub no_phase_lead : (mode : Option Mode) (kinds : List ℕ) (xs : List Float) → pilots_given (phase_answer mode kinds xs) 0 ≡ 0
     → lead_answer mode kinds xs ≡ 0
 unfolding lead_answer
-no_phase_lead Unknown kinds xs e = refl
-no_phase_lead (Known m) kinds xs e = by (phase_answer (Known m) kinds xs) e
+no_phase_lead None kinds xs e = refl
+no_phase_lead (Some m) kinds xs e = by (phase_answer (Some m) kinds xs) e
   where
     by : (a : PhaseAnswer) → pilots_given a 0 ≡ 0 → lead_beside a (lead_of (heard_counts (ballots m kinds xs))) ≡ 0
     by (Detected (Phase p s)) e = absurd (omega arith)
@@ -154,8 +152,8 @@ no_phase_lead (Known m) kinds xs e = by (phase_answer (Known m) kinds xs) e
     by (Refused code) e = refl
 
 -- so zeros alone have lead 0, of either sign (`canon` forgets it), whatever else is handed in
-pub zeros_lead : (mode : ModeNumber) (kinds : List ℕ) (xs : List Float) → ((i : ℕ) → i < length xs → canon (get_or xs i nan) ≡ plus_zero binary32)
+pub zeros_lead : (mode : Option Mode) (kinds : List ℕ) (xs : List Float) → ((i : ℕ) → i < length xs → canon (get_or xs i nan) ≡ plus_zero binary32)
     → lead_answer mode kinds xs ≡ 0
 unfolding lead_answer
-zeros_lead Unknown kinds xs z = refl
-zeros_lead (Known m) kinds xs z = silent_lead m kinds xs (zeros_silent m kinds xs z)
+zeros_lead None kinds xs z = refl
+zeros_lead (Some m) kinds xs z = silent_lead m kinds xs (zeros_silent m kinds xs z)

@@ -3,12 +3,10 @@
 -- worked out over the votes of the symbols that were heard (document 02, Ask 4). All this is a function of the ballots (ballots/specs/Ballots,
 -- winner/specs/Winner).
 -- Definitions only.
-use Rattle.std.specs.Prelude.{ℕ, suc, ◌+◌, ◌-◌, ◌%◌, cond, List, [], ◌∷◌, ◌≡◌, eqb, get_or, length, Float}
+use Rattle.std.specs.Prelude.{ℕ, suc, ◌+◌, ◌-◌, ◌%◌, cond, List, [], ◌∷◌, ◌≡◌, eqb, get_or, length, Float, Option, Some, None}
 use Rattle.lists.specs.Lists.{up_to}
 use Rattle.lists.specs.Refusals.{unless}
 use Rattle.params.specs.declared.Mode.{Mode}
-use Rattle.params.specs.declared.ModeNumber.{ModeNumber}
-use Rattle.params.specs.declared.ModeNumber.TheVariants.{Known, Unknown}
 use Rattle.params.specs.Params.{total_carriers}
 use Rattle.spectra.specs.Spectra.{are_spectra}
 use Rattle.frame.specs.Operations.{are_kinds}
@@ -66,28 +64,28 @@ unfoldable pub phase_of : List Ballot → PilotPhase
 phase_of bs = let counts = counts_of (votes bs) in Phase (won_by counts) (share_of (get_or counts (won_by counts) 0) (length bs))
 
 -- ---- the operation: 1; 2; 5 unless whole spectra, 0 to 1,024
-unfoldable pub phase_code : ModeNumber → List ℕ → ℕ → ℕ
-phase_code Unknown kinds floats = 1
-phase_code (Known m) kinds floats = unless (are_kinds kinds) 2 (unless (are_spectra (total_carriers m) floats) 5 0)
+unfoldable pub phase_code : Option Mode → List ℕ → ℕ → ℕ
+phase_code None kinds floats = 1
+phase_code (Some m) kinds floats = unless (are_kinds kinds) 2 (unless (are_spectra (total_carriers m) floats) 5 0)
 
 -- what is detected: no scattered pilots, or the phase with its share
 unfoldable pub detected : Mode → List ℕ → List Float → PilotPhase
 detected m kinds xs = cond (eqb (length (pilots m kinds 0)) 0) NoScatteredPilots (phase_of (ballots m kinds xs))
 
-unfoldable pub phase_answer : ModeNumber → List ℕ → List Float → PhaseAnswer
-phase_answer Unknown kinds xs = Refused 1
-phase_answer (Known m) kinds xs =
-    let code = phase_code (Known m) kinds (length xs) in
+unfoldable pub phase_answer : Option Mode → List ℕ → List Float → PhaseAnswer
+phase_answer None kinds xs = Refused 1
+phase_answer (Some m) kinds xs =
+    let code = phase_code (Some m) kinds (length xs) in
     cond (eqb code 0) (Detected (detected m kinds xs)) (Refused code)
 
 -- where there are no scattered pilots, or the call is refused, nothing was counted
 abbrev pub no_counts : List ℕ
 no_counts = 0 ∷ 0 ∷ 0 ∷ 0 ∷ []
 
-unfoldable pub counts_answer : ModeNumber → List ℕ → List Float → List ℕ
-counts_answer Unknown kinds xs = no_counts
-counts_answer (Known m) kinds xs =
-    cond (eqb (phase_code (Known m) kinds (length xs)) 0)
+unfoldable pub counts_answer : Option Mode → List ℕ → List Float → List ℕ
+counts_answer None kinds xs = no_counts
+counts_answer (Some m) kinds xs =
+    cond (eqb (phase_code (Some m) kinds (length xs)) 0)
     (cond (eqb (length (pilots m kinds 0)) 0) no_counts (counts_of (votes (ballots m kinds xs))))
     no_counts
 
@@ -98,9 +96,9 @@ lead_beside (Detected NoScatteredPilots) lead = 0
 lead_beside (Refused code) lead = 0
 
 -- the lead of the symbols that were heard
-unfoldable pub lead_answer : ModeNumber → List ℕ → List Float → ℕ
-lead_answer Unknown kinds xs = 0
-lead_answer (Known m) kinds xs = lead_beside (phase_answer (Known m) kinds xs) (lead_of (heard_counts (ballots m kinds xs)))
+unfoldable pub lead_answer : Option Mode → List ℕ → List Float → ℕ
+lead_answer None kinds xs = 0
+lead_answer (Some m) kinds xs = lead_beside (phase_answer (Some m) kinds xs) (lead_of (heard_counts (ballots m kinds xs)))
 
 -- ---- document 01's number of each case, and the values that it gives; what was lent, where it gives none
 abbrev pub phase_number : PhaseAnswer → ℕ
@@ -128,7 +126,7 @@ abbrev pub beside_given : {A : Type 0} → PhaseAnswer → A → A → A
 beside_given (Detected found) given lent = given
 beside_given (Refused code) given lent = lent
 
-pub record PhaseDetected (mode : ModeNumber) (kinds : List ℕ) (xs : List Float) (r : PilotAnswer) : Type 0 where
+pub record PhaseDetected (mode : Option Mode) (kinds : List ℕ) (xs : List Float) (r : PilotAnswer) : Type 0 where
   pub number : phase_number r.answer ≡ phase_code mode kinds (length xs)
   pub answer : r.answer ≡ phase_answer mode kinds xs
   pub counts : r.counts ≡ counts_answer mode kinds xs

@@ -1,9 +1,9 @@
 -- A question: a line of the form `mode,phase,kinds`, what it asks, and what refuses it, as bytes.
 -- Definitions only.
-use Rattle.std.specs.Prelude.{ℕ, ◌-◌, ◌<◌, Bool, true, ◌&&◌, ◌||◌, List, map, ◌≡◌, eqb, leb, ltb, length, get_or, drop}
+use Rattle.params.specs.declared.Mode.{Mode}
+use Rattle.std.specs.Prelude.{ℕ, ◌-◌, ◌<◌, Bool, true, ◌&&◌, ◌||◌, List, map, ◌≡◌, eqb, leb, ltb, length, get_or, drop, Option}
 use Rattle.lists.specs.Refusals.{unless}
 use Rattle.lists.specs.Tests.{all_in}
-use Rattle.params.specs.declared.ModeNumber.{ModeNumber}
 use Rattle.params.specs.Params.{mode_from}
 
 -- bytes: comma 44, digits from 48, C 67, D 68, E 69, line feed 10
@@ -20,7 +20,7 @@ is_question s =
     (is_digit (get_or s 2 0) && (eqb (get_or s 3 0) 44 && all_in is_kind_letter (drop 4 s)))))
 
 -- the mode, the phase and the kinds, in segment-number order, that a question asks
-abbrev pub mode_asked : List ℕ → ModeNumber
+abbrev pub mode_asked : List ℕ → Option Mode
 mode_asked s = mode_from (get_or s 0 0 - 48)
 
 abbrev pub phase_asked : List ℕ → ℕ

@@ -1,11 +1,10 @@
 -- Modes and guards as lists of codes, and how many samples a guard search needs (acquire.rs, `samples_needed`).
 -- Definitions only.
-use Rattle.std.specs.Prelude.{ℕ, ◌+◌, ◌*◌, ◌/◌, Bool, true, false, cond, List, [], ◌∷◌, map, ◌≡◌, leb, ltb, eqb}
+use Rattle.params.specs.declared.Mode.{Mode}
+use Rattle.std.specs.Prelude.{ℕ, ◌+◌, ◌*◌, ◌/◌, Bool, true, false, cond, List, [], ◌∷◌, map, ◌≡◌, leb, ltb, eqb, Option, Some, None}
 use Rattle.lists.specs.Lists.{joined}
 use Rattle.lists.specs.Refusals.{unless}
 use Rattle.lists.specs.Tests.{all_in}
-use Rattle.params.specs.declared.ModeNumber.{ModeNumber}
-use Rattle.params.specs.declared.ModeNumber.TheVariants as mode_number
 use Rattle.params.specs.declared.GuardDenominator.{GuardDenominator}
 use Rattle.params.specs.declared.GuardDenominator.TheVariants as guard_denominator
 use Rattle.params.specs.Params.{mode_from, guard_from, fft_size}
@@ -13,13 +12,13 @@ use Rattle.samples_needed.specs.declared.SamplesNeeded.{SamplesNeeded}
 use Rattle.samples_needed.specs.declared.SamplesNeeded.TheVariants.{Samples, Refused}
 
 -- ---- codes
-abbrev pub known_mode : ModeNumber → Bool
-known_mode mode_number.Unknown = false
-known_mode (mode_number.Known m) = true
+abbrev pub known_mode : Option Mode → Bool
+known_mode None = false
+known_mode (Some m) = true
 
 abbrev pub known_guard : GuardDenominator → Bool
-known_guard guard_denominator.Unknown = false
-known_guard (guard_denominator.Known g) = true
+known_guard guard_denominator.None = false
+known_guard (guard_denominator.Some g) = true
 
 abbrev pub is_mode : ℕ → Bool
 is_mode n = known_mode (mode_from n)
@@ -28,9 +27,9 @@ abbrev pub is_guard : ℕ → Bool
 is_guard d = known_guard (guard_from d)
 
 -- n of a mode's number
-abbrev pub size_of : ModeNumber → ℕ
-size_of mode_number.Unknown = 0
-size_of (mode_number.Known m) = fft_size m
+abbrev pub size_of : Option Mode → ℕ
+size_of None = 0
+size_of (Some m) = fft_size m
 
 abbrev pub fft_of : ℕ → ℕ
 fft_of mode = size_of (mode_from mode)

@@ -1,30 +1,29 @@
 -- What the codes of modes and guards bound: a mode has 2,048 to 8,192 samples, and no guard's denominator is 0.
 -- Assumes nothing.
-use Rattle.std.specs.Prelude.{ℕ, zero, suc, ◌+◌, ◌*◌, ◌/◌, ◌≤◌, ◌<◌, true, ◌≡◌}
+use Rattle.params.specs.declared.Mode.{Mode}
+use Rattle.std.specs.Prelude.{ℕ, zero, suc, ◌+◌, ◌*◌, ◌/◌, ◌≤◌, ◌<◌, true, ◌≡◌, Option, Some, None}
 use Rattle.std.proofs.Common.{zero-lt-suc, mul-le-mul, div-le_self, arith, lit≤}
 use Rattle.params.specs.declared.Mode.TheVariants.{M1, M2, M3}
-use Rattle.params.specs.declared.ModeNumber.{ModeNumber}
-use Rattle.params.specs.declared.ModeNumber.TheVariants.{Known, Unknown}
 use Rattle.params.specs.Params.{mode_from}
 use Rattle.samples_needed.specs.Samples.{known_mode, is_mode, is_guard, size_of, fft_of}
 
 pub large : (mode : ℕ) → is_mode mode ≡ true → 2048 ≤ fft_of mode
 large mode = size (mode_from mode)
   where
-    size : (m : ModeNumber) → known_mode m ≡ true → 2048 ≤ size_of m
-    size Unknown h = absurd (let z : ◌≡◌ {A = ℕ} 0 1 = cc in omega arith)
-    size (Known M1) h = lit≤ tt
-    size (Known M2) h = lit≤ tt
-    size (Known M3) h = lit≤ tt
+    size : (m : Option Mode) → known_mode m ≡ true → 2048 ≤ size_of m
+    size None h = absurd (let z : ◌≡◌ {A = ℕ} 0 1 = cc in omega arith)
+    size (Some M1) h = lit≤ tt
+    size (Some M2) h = lit≤ tt
+    size (Some M3) h = lit≤ tt
 
 pub small : (mode n : ℕ) → n ≡ fft_of mode → n ≤ 8192
 small mode n e = rw e (size (mode_from mode))
   where
-    size : (m : ModeNumber) → size_of m ≤ 8192
-    size Unknown = omega arith
-    size (Known M1) = omega arith
-    size (Known M2) = omega arith
-    size (Known M3) = omega arith
+    size : (m : Option Mode) → size_of m ≤ 8192
+    size None = omega arith
+    size (Some M1) = omega arith
+    size (Some M2) = omega arith
+    size (Some M3) = omega arith
 
 pub some : (d : ℕ) → is_guard d ≡ true → 0 < d
 some zero e = absurd (let z : ◌≡◌ {A = ℕ} 0 1 = cc in omega arith)

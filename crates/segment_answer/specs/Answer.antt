@@ -1,10 +1,8 @@
 -- The segment list of document 01: what is printed for a line of the input, as bytes.
 -- Definitions only.
-use Rattle.std.specs.Prelude.{ℕ, ◌+◌, ◌*◌, ◌-◌, cond, List, [], ◌∷◌, ◌++◌, eqb, length, get_or}
+use Rattle.std.specs.Prelude.{ℕ, ◌+◌, ◌*◌, ◌-◌, cond, List, [], ◌∷◌, ◌++◌, eqb, length, get_or, Option, Some, None}
 use Rattle.lists.specs.Lists.{joined, range}
 use Rattle.params.specs.declared.Mode.{Mode}
-use Rattle.params.specs.declared.ModeNumber.{ModeNumber}
-use Rattle.params.specs.declared.ModeNumber.TheVariants.{Known, Unknown}
 use Rattle.params.specs.Params.{carriers_per_segment, total_carriers}
 use Rattle.ofdm.specs.Band.{segment_at}
 use Rattle.frame.specs.declared.AcKind.TheVariants.{Ac1, Ac2}
@@ -37,9 +35,9 @@ unfoldable pub refused_line : ℕ → List ℕ
 refused_line code = 114 ∷ 101 ∷ 102 ∷ 117 ∷ 115 ∷ 101 ∷ 100 ∷ 44 ∷ (decimal code ++ (10 ∷ []))
 
 -- the fourteen lines of a question that is answered
-unfoldable pub list_lines : ModeNumber → ℕ → List ℕ → List ℕ
-list_lines Unknown phase kinds = []
-list_lines (Known m) phase kinds = joined (segment_line m phase kinds) (range 13) ++ edge_line m
+unfoldable pub list_lines : Option Mode → ℕ → List ℕ → List ℕ
+list_lines None phase kinds = []
+list_lines (Some m) phase kinds = joined (segment_line m phase kinds) (range 13) ++ edge_line m
 
 -- what is printed for a line, without its line feed
 unfoldable pub line_answer : List ℕ → List ℕ

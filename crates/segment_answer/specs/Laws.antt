@@ -1,9 +1,8 @@
 -- The line of a segment in terms of a question's bytes, and the cases of a line's answer.
 -- Assumes nothing.
-use Rattle.std.specs.Prelude.{ℕ, ◌+◌, ◌*◌, ◌-◌, ◌≤◌, ◌<◌, List, ◌∷◌, ◌++◌, ◌≡◌, length, get_or}
+use Rattle.std.specs.Prelude.{ℕ, ◌+◌, ◌*◌, ◌-◌, ◌≤◌, ◌<◌, List, ◌∷◌, ◌++◌, ◌≡◌, length, get_or, Option}
 use Rattle.std.proofs.Common.{append_assoc, sym, arith, eq-eqb, ne_eqb}
 use Rattle.params.specs.declared.Mode.{Mode}
-use Rattle.params.specs.declared.ModeNumber.{ModeNumber}
 use Rattle.params.specs.declared.SegmentKind.{SegmentKind}
 use Rattle.params.specs.Params.{carriers_per_segment, kind_from}
 use Rattle.ofdm.specs.Band.{segment_at}
@@ -47,7 +46,7 @@ pub refused_answer : (s : List ℕ) (code : ℕ) → code ≡ line_code s → (c
 unfolding line_answer
 refused_answer s code e h = rw (← e, ne_eqb code 0 h)
 
-pub list_answer : (s : List ℕ) (code : ℕ) (m : ModeNumber) → code ≡ line_code s → code ≡ 0 → mode_asked s ≡ m
+pub list_answer : (s : List ℕ) (code : ℕ) (m : Option Mode) → code ≡ line_code s → code ≡ 0 → mode_asked s ≡ m
     → line_answer s ≡ list_lines m (phase_asked s) (kinds_asked s)
 unfolding line_answer
 list_answer s code m e z q = rw (← e, eq-eqb code 0 z, q)
