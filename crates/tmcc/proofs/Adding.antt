@@ -23,13 +23,13 @@ pub in_band : {mode : Mode} {place : ℕ} {places : List ℕ} {n : ℕ} → Adda
 in_band {mode} {place} h i k l e = omega (arith, segment_ends mode place h.in_band, h.in_segment i l)
 
 module _ (start : Float) (mode : Mode) (place : ℕ) (xs : List Float) (places : List ℕ) where
-  pub record Ahead (sum : Float) (i : ℕ) : Type 0 where
-    pub passed : i ≤ length places
-    pub summed : total binary32 sum (terms_at mode place xs (drop i places)) ≡ added_to start mode place xs places
+  -- with the terms from place i on, sum makes the whole
+  abbrev pub Ahead : Float → ℕ → Type 0
+  Ahead sum i = total binary32 sum (terms_at mode place xs (drop i places)) ≡ added_to start mode place xs places
 
   pub begin : Ahead start 0
   unfolding added_to
-  begin = record { passed = omega arith; summed = refl }
+  begin = refl
 
   module _ (sum : Float) (i : ℕ) (a : Ahead sum i) (len k : ℕ) (band : len ≡ total_carriers mode)
       (at : k ≡ place * carriers_per_segment mode + get_or places i 0) where
@@ -39,8 +39,8 @@ module _ (start : Float) (mode : Mode) (place : ℕ) (xs : List Float) (places :
     unfolding total
     further later earlier turned p h l e t q =
         let term : p.re ≡ soft_term (total_carriers mode) xs (place * carriers_per_segment mode + get_or places i 0) = rw (q, t, l, e, band, at) in
-        record { passed = omega arith; summed = rw (term, add-one i) (rw (drop-cons places i 0 h) at a.summed) }
+        rw (term, add-one i) (rw (drop-cons places i 0 h) at a)
 
   pub done : (sum : Float) (i : ℕ) → Ahead sum i → length places ≤ i → sum ≡ added_to start mode place xs places
   unfolding total
-  done sum i a h = rw (drop_of_length-le places h) at a.summed
+  done sum i a h = rw (drop_of_length-le places h) at a
