@@ -1,6 +1,5 @@
 -- `tmcc::soft_value` meets its contract: the terms of the segments so far are added up.
 -- Assumes nothing.
-use Prim.Native.Nat.{ℕ}
 use mathlib.Core.Path.{◌≡◌}
 use native.Mathlib.Omega.{arith}
 use Rattle.tmcc.proofs.Segments.{addable, begin, skip, further, done}
@@ -8,7 +7,7 @@ use Rattle.tmcc.proofs.soft_value.Goals as goal
 use Rattle.tmcc.proofs.soft_value.Goals.{then-passes, else-passes}
 
 pub loop-number-init : goal.loop-number-init
-loop-number-init c = begin _ _ _ _
+loop-number-init c = begin c.args.layout.mode c.args.layout.kinds c.args.filter c.args.spectra.now
 
 pub add_places-sum-requires : goal.add_places-sum-requires
 add_places-sum-requires c =
