@@ -1,6 +1,6 @@
 -- What a buffer that holds a band's roles gives to the lists made from it.
 -- Assumes nothing.
-use Rattle.std.proofs.Common.{Option, Some, None}
+use Rattle.std.proofs.Common.{Option, Some, None, Result, Err}
 use Prim.Native.Nat.{ℕ, ◌*◌, ◌≤◌, ◌<◌}
 use mathlib.Core.Bool.{Bool, true, false}
 use mathlib.Core.List.{List, [], ◌∷◌, ◌++◌}
@@ -17,18 +17,17 @@ use Rattle.params.specs.Laws.{sized}
 use Rattle.ofdm.specs.Band.{order, place_of, first_carrier, ZeroBand}
 use Rattle.ofdm.specs.Laws.{place_below, segment_of_place}
 use Rattle.frame.specs.declared.CarrierRole.TheVariants.{EdgeCp}
-use Rattle.carrier_lists.specs.declared.ContinualList.{ContinualList}
-use Rattle.carrier_lists.specs.declared.ContinualList.TheVariants.{Refused}
-use Rattle.frame.specs.Roles.{role_byte, is_data, segment_roles, band_roles, wide_segment, wide}
+use Rattle.params.specs.declared.Refusal.{Refusal}
+use Rattle.frame.specs.Roles.{role_byte, is_data, segment_roles, band_roles, wide_segment, wide, kind_codes}
 use Rattle.carrier_lists.specs.CarrierLists.{segment_data, data_list, continual_list}
 use Rattle.frame.specs.OneRole.{segment_length, band_length, wide_size}
 use Rattle.carrier_lists.specs.DataList.{data_length}
 use Rattle.carrier_lists.specs.Continual.{continual_listed}
-use Rattle.frame.specs.Operations.{are_kinds}
 use Rattle.carrier_lists.specs.Operations.{ContinualListed, continual_list_code, continual_list_answer, continual_list_leaves}
-use Rattle.frame.specs.Inner.{AcceptedLayout}
+use Rattle.frame.specs.Inner.{Accepted, RefusedLayout}
+use Rattle.frame.specs.declared.FrameLayout.{FrameLayout}
 use Rattle.carrier_lists.specs.Inner.{DataRoom, data_in, Continual, BandBuffer}
-use Rattle.frame.specs.Answers.{kinds_good, by_refusal}
+use Rattle.frame.specs.Answers.{by_refusal}
 
 module _ (mode : Mode) (phase : ℕ) (kinds : List ℕ) where
   abbrev roles : List ℕ
@@ -88,29 +87,27 @@ module _ (mode : Mode) (phase : ℕ) (kinds : List ℕ) where
     pub data_stored : (out' : List ℕ) → out' ≡ joined (data_in mode (take k buffer)) (range 13) → out' ≡ data_list mode phase kinds
     data_stored out' w = w ∙ (ap (λ (z : List ℕ). joined (data_in mode z) (range 13)) buffer_front ∙ same_data)
 
-    pub continual_of_lem : (out : List ℕ) (r : ContinualList) (out' : List ℕ) → Continual (take k buffer) out r out' → Continual roles out r out'
+    pub continual_of_lem : (out : List ℕ) (r : Result ℕ Refusal) (out' : List ℕ) → Continual (take k buffer) out r out' → Continual roles out r out'
     continual_of_lem out r out' w = subst (λ (z : List ℕ). Continual z out r out') buffer_front w
 
 -- the continual list of a layout that was refused, or accepted
-module _ (number : Option Mode) (kinds : List ℕ) (code : ℕ) (m : Mode) (read : List ℕ) (a : AcceptedLayout number kinds code m read) where
-  pub continual_refused : (out : List ℕ) → (code ≡ 0 → ⊥) → ContinualListed number kinds out (Refused code) out
+module _ (kinds out : List ℕ) where
+  pub continual_refused : (number : Option Mode) (refusal : Refusal) → RefusedLayout number kinds refusal
+      → ContinualListed number kinds out (Err refusal) out
   unfolding continual_list_code continual_list_answer continual_list_leaves
-  continual_refused out =
-      by_refusal number kinds code m read a (λ n c. ContinualListed n kinds out (Refused c) out) (continual_listed None kinds out _ _ refl refl)
+  continual_refused =
+      by_refusal kinds (λ n r. ContinualListed n kinds out (Err r) out) (continual_listed None kinds out _ _ refl refl)
       (λ k g. continual_listed (Some k) kinds out _ _ (rw g) (rw g))
 
-  pub continual_answered : (out : List ℕ) (r : ContinualList) (out' : List ℕ) → code ≡ 0
-      → Continual (band_roles m 0 (wide read)) out r out' → ContinualListed number kinds out r out'
+  pub continual_answered : {number : Option Mode} {layout : FrameLayout} → Accepted number kinds layout → (r : Result ℕ Refusal) (out' : List ℕ)
+      → Continual (band_roles layout.mode 0 (wide (kind_codes layout.kinds))) out r out' → ContinualListed number kinds out r out'
   unfolding continual_list continual_list_code continual_list_answer continual_list_leaves
-  continual_answered out r out' z w = by (leb (length (continual_list m kinds)) (length out)) refl
+  continual_answered {number} {layout} a r out' w = by (leb (length (continual_list layout.mode kinds)) (length out)) refl
     where
-      good : are_kinds kinds ≡ true
-      good = kinds_good number kinds code m read a z
-
-      by : (b : Bool) → leb (length (continual_list m kinds)) (length out) ≡ b → ContinualListed number kinds out r out'
+      by : (b : Bool) → leb (length (continual_list layout.mode kinds)) (length out) ≡ b → ContinualListed number kinds out r out'
       by true e =
           continual_listed number kinds out r out'
-          (w.answer ∙ (rw (a.same z, a.known z, good, e))) (w.leaves ∙ (rw (a.same z, a.known z, good, e)))
+          (w.answer ∙ (rw (a.same, a.known, a.good, e))) (w.leaves ∙ (rw (a.same, a.known, a.good, e)))
       by false e =
           continual_listed number kinds out r out'
-          (w.answer ∙ (rw (a.same z, a.known z, good, e))) (w.leaves ∙ (rw (a.same z, a.known z, good, e)))
+          (w.answer ∙ (rw (a.same, a.known, a.good, e))) (w.leaves ∙ (rw (a.same, a.known, a.good, e)))

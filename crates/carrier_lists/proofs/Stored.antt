@@ -1,7 +1,6 @@
 -- The lists that are stored group by group: the data carriers segment after segment, the continual carriers role after role.
 -- Assumes nothing.
 use Prim.Native.Nat.{ℕ, zero, suc, ◌+◌, ◌-◌, ◌≤◌, ◌<◌}
-use mathlib.Core.Bool.{Bool, true, false, cond}
 use mathlib.Core.List.{List, [], ◌∷◌, ◌++◌, append_assoc}
 use mathlib.Core.Path.{◌≡◌, refl, sym, ap, ◌∙◌}
 use native.Mathlib.Numerals.{add-one}
@@ -17,19 +16,13 @@ use Rattle.params.specs.Params.{carriers_per_segment}
 use Rattle.params.specs.Laws.{sized}
 use Rattle.ofdm.specs.Band.{place_of, first_carrier}
 use Rattle.ofdm.specs.Laws.{place_below, segment_ends}
-use Rattle.carrier_lists.specs.declared.ContinualList.TheVariants.{Count, Refused}
+use Rattle.std.proofs.Common.{Ok, Err, count_by}
+use Rattle.params.specs.declared.Refusal.TheVariants.{WrongLength}
 use Rattle.frame.specs.Roles.{is_data, is_tmcc, is_ac, is_cp_byte}
 use Rattle.carrier_lists.specs.CarrierLists.{continual_in, stored_first}
 use Rattle.carrier_lists.specs.ContinualCount.{is_continual, groups_counted, continual_count}
+use Rattle.carrier_lists.proofs.Collecting.{chosen_counted}
 use Rattle.carrier_lists.specs.Inner.{Room, Collected, DataRoom, data_in, ContinualRoom, Continual}
-
-pub chosen_fewer : (t : ℕ → Bool) (k : ℕ) (xs : List ℕ) → length (chosen t k xs) ≤ length xs
-chosen_fewer t k [] = omega arith
-chosen_fewer t k (x ∷ xs) = by (t x) (chosen_fewer t (suc k) xs)
-  where
-    by : (b : Bool) → length (chosen t (suc k) xs) ≤ length xs → length (cond b (k ∷ chosen t (suc k) xs) (chosen t (suc k) xs)) ≤ suc (length xs)
-    by true h = omega arith
-    by false h = omega arith
 
 -- data carriers: one segment more
 joined_longer : (f : ℕ → List ℕ) (m n : ℕ) → m ≤ n → length (joined f (range m)) ≤ length (joined f (range n))
@@ -126,11 +119,11 @@ module _ (roles : List ℕ) where
   cp = chosen is_cp_byte 0 roles
 
   -- n is what the code counts, without the edge
-  module _ (old : List ℕ) (n : ℕ) (e : n ≡ length (chosen is_continual 0 roles)) where
+  module _ (old : List ℕ) (n : ℕ) (e : n ≡ count_by is_continual roles) where
     with_edge : n + 1 ≡ length (continual_in roles)
-    with_edge = omega (arith, continual_count roles)
+    with_edge = omega (arith, continual_count roles, chosen_counted is_continual 0 roles)
 
-    pub refused_short : length old < n + 1 → Continual roles old (Refused 7) old
+    pub refused_short : length old < n + 1 → Continual roles old (Err WrongLength) old
     refused_short h =
         let t = lt-leb (length (continual_in roles)) (length old) (rw with_edge at h) in
         record { answer = rw t; leaves = rw t }
@@ -139,7 +132,7 @@ module _ (roles : List ℕ) where
       pub has_all_room : length (continual_in roles) ≤ length old
       has_all_room = rw with_edge at h
 
-      pub stored_whole : (out' : List ℕ) → out' ≡ stored_first (continual_in roles) old → Continual roles old (Count (n + 1)) out'
+      pub stored_whole : (out' : List ℕ) → out' ≡ stored_first (continual_in roles) old → Continual roles old (Ok (n + 1)) out'
       stored_whole out' w =
           let t = le-leb (length (continual_in roles)) (length old) has_all_room in
           record { answer = rw (with_edge, t); leaves = rw t w }

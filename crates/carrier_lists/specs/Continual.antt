@@ -1,27 +1,25 @@
 -- The continual list's four groups hold exactly the carriers of TMCC, AC, CP and the edge, each ascending, at any phase; and the number
 -- of its answer is the operation's code.
 -- Assumes nothing.
-use Rattle.std.specs.Prelude.{ℕ, ◌*◌, ◌-◌, true, false, cond, ◌||◌, List, [], ◌∷◌, ◌++◌, ◌≡◌, refl, eqb, length, Option, Some, None}
-use Rattle.std.proofs.Common.{sym, ap, ◌∙◌, arith, add-one, eq-eqb, ne_eqb, lit<}
-use Rattle.lists.specs.Refusals.{numbered}
+use Rattle.std.specs.Prelude.{ℕ, ◌*◌, ◌-◌, ◌≤◌, Bool, true, false, cond, ◌||◌, List, [], ◌∷◌, ◌++◌, ◌≡◌, refl, eqb, length, Option, Some, None, Result}
+use Rattle.std.proofs.Common.{sym, ap, ◌∙◌, arith, add-one, eq-eqb, ne_eqb, lit<, lit≤}
+use Rattle.lists.specs.Refusals.{unless}
 use Rattle.lists.specs.Lists.{range, select, chosen}
 use Rattle.lists.specs.Select.{select_append, select_none, Ascending, select_ascending}
 use Rattle.lists.specs.Truth.{same, same_true}
 use Rattle.params.specs.declared.Mode.{Mode}
-use Rattle.params.specs.Params.{carriers_per_segment, total_carriers}
-use Rattle.params.specs.Laws.{sized}
+use Rattle.params.specs.declared.Refusal.{Refusal}
+use Rattle.params.specs.Params.{carriers_per_segment, total_carriers, code_of}
+use Rattle.params.specs.Laws.{sized, answered_code}
 use Rattle.frame.specs.declared.AcKind.TheVariants.{Ac1, Ac2}
 use Rattle.frame.specs.declared.CarrierRole.{CarrierRole}
 use Rattle.frame.specs.declared.CarrierRole.TheVariants.{Cp, Tmcc, Ac, EdgeCp}
 use Rattle.frame.specs.Roles.{OfdmSegment, role_byte, band_roles, edge_of, role_at, wide, is_tmcc, is_ac, is_cp_byte}
-use Rattle.carrier_lists.specs.declared.ContinualList.{ContinualList}
-use Rattle.carrier_lists.specs.declared.ContinualList.TheVariants.{Refused}
 use Rattle.carrier_lists.specs.CarrierLists.{continual_list}
 use Rattle.carrier_lists.specs.Operations.{
   continual_list_code,
   continual_list_answer,
   continual_list_leaves,
-  continual_number,
   ContinualListed,
 }
 use Rattle.frame.specs.Rules.{place_has, band_size, has_role, carriers_of}
@@ -98,12 +96,17 @@ ac_ascending mode phase segments =
 
 -- the number of an answer is the operation's code
 pub continual_number_lem : (mode : Option Mode) (kinds : List ℕ) (n : ℕ)
-    → continual_number (continual_list_answer mode kinds n) ≡ continual_list_code mode kinds n
+    → code_of (continual_list_answer mode kinds n) ≡ continual_list_code mode kinds n
 unfolding continual_list_answer continual_list_code
 continual_number_lem None kinds n = refl
-continual_number_lem (Some m) kinds n = numbered continual_number Refused (continual_list_code (Some m) kinds n) _ refl (λ k. refl)
+continual_number_lem (Some m) kinds n = answered_code (continual_list_code (Some m) kinds n) _ (few _ _)
+  where
+    few : (a b : Bool) → unless a 2 (unless b 7 0) ≤ 11
+    few true true = lit≤ tt
+    few true false = lit≤ tt
+    few false b = lit≤ tt
 
-pub continual_listed : (mode : Option Mode) (kinds out : List ℕ) (r : ContinualList) (out' : List ℕ)
+pub continual_listed : (mode : Option Mode) (kinds out : List ℕ) (r : Result ℕ Refusal) (out' : List ℕ)
     → r ≡ continual_list_answer mode kinds (length out) → out' ≡ continual_list_leaves mode kinds out → ContinualListed mode kinds out r out'
 continual_listed mode kinds out r out' a l =
-    record { number = ap continual_number a ∙ continual_number_lem mode kinds (length out); answer = a; leaves = l }
+    record { number = ap code_of a ∙ continual_number_lem mode kinds (length out); answer = a; leaves = l }

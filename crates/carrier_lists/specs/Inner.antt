@@ -1,14 +1,14 @@
 -- What the inner functions store and take on the way to an operation's answer. No operation's contract cites these.
 -- Definitions only.
-use Rattle.std.specs.Prelude.{ℕ, ◌+◌, ◌≤◌, ◌<◌, cond, List, ◌≡◌, leb, length, take, drop}
+use Rattle.std.specs.Prelude.{ℕ, ◌+◌, ◌≤◌, ◌<◌, cond, List, ◌≡◌, leb, length, take, drop, Result, Ok, Err}
 use Rattle.std.proofs.lemmas.List.Edits.{sets}
 use Rattle.lists.specs.Lists.{range, joined, chosen}
 use Rattle.params.specs.declared.Mode.{Mode}
+use Rattle.params.specs.declared.Refusal.{Refusal}
+use Rattle.params.specs.declared.Refusal.TheVariants.{WrongLength}
 use Rattle.params.specs.Params.{carriers_per_segment, total_carriers}
 use Rattle.ofdm.specs.Band.{place_of, first_carrier}
 use Rattle.frame.specs.Roles.{between, is_data}
-use Rattle.carrier_lists.specs.declared.ContinualList.{ContinualList}
-use Rattle.carrier_lists.specs.declared.ContinualList.TheVariants.{Count, Refused}
 use Rattle.carrier_lists.specs.CarrierLists.{continual_in, stored_first}
 
 -- the carriers that `collect` stores
@@ -39,8 +39,8 @@ pub record ContinualRoom (roles out : List ℕ) : Type 0 where
   pub few : length roles ≤ 5617
   pub fits : length (continual_in roles) ≤ length out
 
-pub record Continual (roles out : List ℕ) (r : ContinualList) (out' : List ℕ) : Type 0 where
-  pub answer : r ≡ cond (leb (length (continual_in roles)) (length out)) (Count (length (continual_in roles))) (Refused 7)
+pub record Continual (roles out : List ℕ) (r : Result ℕ Refusal) (out' : List ℕ) : Type 0 where
+  pub answer : r ≡ cond (leb (length (continual_in roles)) (length out)) (Ok (length (continual_in roles))) (Err WrongLength)
   pub leaves : out' ≡ cond (leb (length (continual_in roles)) (length out)) (stored_first (continual_in roles) out) out
 
 -- a buffer whose first k_total entries are the band's roles

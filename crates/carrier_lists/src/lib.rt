@@ -3,28 +3,17 @@
 // continual list in one that counts and one for each of its three groups.
 #![tactic(auto)]
 
-ghost use Rattle.std.specs.Prelude.{◌≡◌, ◌<◌, ◌≤◌, ◌*◌, length};
+ghost use Rattle.std.specs.Prelude.{◌≡◌, ◌<◌, ◌≤◌, ◌*◌, length, count_by};
 ghost use Rattle.lists.specs.Lists.{range, joined, chosen};
-ghost use Rattle.params.specs.Params.{mode_from, data_carriers_per_segment};
-ghost use Rattle.frame.specs.Roles.{band_roles, wide, between};
+ghost use Rattle.params.specs.Params.{mode_from, data_carriers_per_segment, code_of};
+ghost use Rattle.frame.specs.Roles.{band_roles, wide, between, kind_codes};
 ghost use Rattle.carrier_lists.specs.CarrierLists.{data_list, continual_in, stored_first};
 ghost use Rattle.carrier_lists.specs.Operations.{DataList, ContinualListed};
 ghost use Rattle.carrier_lists.specs.Inner.{Room, Collected, DataRoom, data_in, ContinualRoom, Continual, BandBuffer};
 
-use frame::FrameLayout;
+use frame::{AC1, AC2, CP, DATA, FrameLayout, TMCC};
 use ofdm::{BandCarrier, Segment};
-use params::Mode;
-
-// Role bytes, as `frame::CarrierRole::byte` has them.
-const DATA: u8 = 0;
-
-const CP: u8 = 2;
-
-const TMCC: u8 = 3;
-
-const AC1: u8 = 4;
-
-const AC2: u8 = 5;
+use params::{Mode, Refusal};
 
 // Stores, from index `at` of `out` on, the carriers whose role byte lies from low to high, where
 // roles[i] is that of the i-th carrier from the first on. Hands back the index behind the last.
@@ -34,34 +23,23 @@ fn collect(roles: &[u8], low: u8, high: u8, first: BandCarrier, out: &mut [u32],
 {
     let lowest = first.0;
     let mut n = at;
-    let mut i: usize = 0;
-    while i < roles.len() {
-        if !frame::is_between(low, high, roles[i]) {
-            i += 1;
-            continue;
+    for (i, role) in roles.iter().enumerate() {
+        if frame::is_between(low, high, *role) {
+            out[n] = (lowest + i) as u32;
+            n += 1;
         }
-        out[n] = (lowest + i) as u32;
-        n += 1;
-        i += 1;
     }
     n
 }
 
 // How many role bytes lie from low to high.
 fn count(roles: &[u8], low: u8, high: u8) -> usize
-    ensures { result ≡ length (chosen (between low high) 0 roles.now) }
+    ensures { result ≡ count_by (between low high) roles.now }
 {
-    let mut n: usize = 0;
-    let mut i: usize = 0;
-    while i < roles.len() {
-        if !frame::is_between(low, high, roles[i]) {
-            i += 1;
-            continue;
-        }
-        n += 1;
-        i += 1;
-    }
-    n
+    roles
+        .iter()
+        .filter(|role| frame::is_between(low, high, **role))
+        .count()
 }
 
 // Stores the data carriers of each segment, in segment-number order, of a band with these roles.
@@ -71,21 +49,12 @@ fn collect_data(mode: Mode, roles: &[u8], out: &mut [u32])
 {
     let c = mode.carriers_per_segment();
     let mut at: usize = 0;
-    let mut seg: usize = 0;
-    while seg < 13 {
+    for seg in 0..13 {
         let first = ofdm::first_carrier(mode, ofdm::segment_position(Segment(seg)));
         let from = first.0;
         let to = from + c;
         at = collect(&roles[from..to], DATA, DATA, first, out, at);
-        seg += 1;
     }
-}
-
-// What the continual list answers: how many numbers were written, or the refusal.
-#[derive(Clone, Copy)]
-pub enum ContinualList {
-    Count(usize),
-    Refused(u8),
 }
 
 // Stores TMCC carriers, AC carriers, CP carriers and the edge of a band with these roles.
@@ -102,22 +71,22 @@ fn store_continual(roles: &[u8], out: &mut [u32])
 
 // Stores them where there is room. The bytes of CP, TMCC, AC1 and AC2 follow one another, so that
 // one walk counts them all; the edge is one more.
-fn collect_continual(roles: &[u8], out: &mut [u32]) -> ContinualList
+fn collect_continual(roles: &[u8], out: &mut [u32]) -> Result<usize, Refusal>
     requires { (0 < length roles.now) × (length roles.now ≤ 5617) }
     ensures { Continual roles.now out.old result out.new }
 {
     let n = count(roles, CP, AC2) + 1;
     if out.len() < n {
-        return ContinualList::Refused(7);
+        return Err(Refusal::WrongLength);
     }
     store_continual(roles, out);
-    ContinualList::Count(n)
+    Ok(n)
 }
 
 // Role bytes of the band, in a buffer's first k_total entries.
 fn band(layout: FrameLayout, phase: u8) -> [u8; 5617]
     requires { phase < 4 }
-    ensures { BandBuffer layout.mode (band_roles layout.mode phase (wide layout.kinds)) result }
+    ensures { BandBuffer layout.mode (band_roles layout.mode phase (wide (kind_codes layout.kinds))) result }
 {
     let mode = layout.mode;
     let k = mode.total_carriers();
@@ -129,7 +98,7 @@ fn band(layout: FrameLayout, phase: u8) -> [u8; 5617]
 // Data carriers of a layout, in segment-number order.
 pub fn data_carriers(layout: FrameLayout, phase: u8, out: &mut [u32])
     requires { (phase < 4) × (length out.old ≡ 13 * data_carriers_per_segment layout.mode) }
-    ensures { out.new ≡ data_list layout.mode phase layout.kinds }
+    ensures { out.new ≡ data_list layout.mode phase (kind_codes layout.kinds) }
 {
     let mode = layout.mode;
     let k = mode.total_carriers();
@@ -138,8 +107,8 @@ pub fn data_carriers(layout: FrameLayout, phase: u8, out: &mut [u32])
 }
 
 // Continual carriers of a layout. None of them depends on the phase.
-pub fn continual_carriers(layout: FrameLayout, out: &mut [u32]) -> ContinualList
-    ensures { Continual (band_roles layout.mode 0 (wide layout.kinds)) out.old result out.new }
+pub fn continual_carriers(layout: FrameLayout, out: &mut [u32]) -> Result<usize, Refusal>
+    ensures { Continual (band_roles layout.mode 0 (wide (kind_codes layout.kinds))) out.old result out.new }
 {
     let mode = layout.mode;
     let k = mode.total_carriers();
@@ -151,38 +120,27 @@ pub fn continual_carriers(layout: FrameLayout, out: &mut [u32]) -> ContinualList
 //
 // Refused by 1 for a bad mode, 2 unless there are thirteen kinds of 0 or 1, 3 for a bad phase, 7
 // unless the output has 13 x nc numbers.
-pub fn data_list(mode: u8, phase: u8, kinds: &[u8], out: &mut [u32]) -> u8
-    ensures { DataList (mode_from mode) phase kinds.now out.old result out.new }
+pub fn data_list(mode: u8, phase: u8, kinds: &[u8], out: &mut [u32]) -> Result<(), Refusal>
+    ensures { DataList (mode_from mode) phase kinds.now out.old (code_of result) out.new }
 {
-    let new = FrameLayout::new(mode, kinds);
-    let code = new.code;
-    if code != 0 {
-        return code;
-    }
+    let layout = FrameLayout::new(mode, kinds)?;
     if 3 < phase {
-        return 3;
+        return Err(Refusal::BadPhase);
     }
-    let layout = new.layout;
-    let m = layout.mode;
-    if out.len() != 13 * m.data_carriers_per_segment() {
-        return 7;
+    if out.len() != 13 * layout.mode.data_carriers_per_segment() {
+        return Err(Refusal::WrongLength);
     }
     data_carriers(layout, phase, out);
-    0
+    Ok(())
 }
 
 // Continual list: all TMCC carriers, all AC carriers, all CP carriers, each ascending, and the edge.
 //
 // Hands back how many numbers it wrote; what lies beyond them keeps its contents. Refused by 1 for a
 // bad mode, 2 unless there are thirteen kinds of 0 or 1, 7 if the output is shorter than the count.
-pub fn continual_list(mode: u8, kinds: &[u8], out: &mut [u32]) -> ContinualList
+pub fn continual_list(mode: u8, kinds: &[u8], out: &mut [u32]) -> Result<usize, Refusal>
     ensures { ContinualListed (mode_from mode) kinds.now out.old result out.new }
 {
-    let new = FrameLayout::new(mode, kinds);
-    let code = new.code;
-    if code != 0 {
-        return ContinualList::Refused(code);
-    }
-    let layout = new.layout;
+    let layout = FrameLayout::new(mode, kinds)?;
     continual_carriers(layout, out)
 }

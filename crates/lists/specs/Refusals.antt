@@ -1,6 +1,6 @@
 -- Refusals in the order in which a paper lists them.
 -- Assumes nothing.
-use Rattle.std.specs.Prelude.{ℕ, ◌<◌, Bool, true, false, cond, ◌≡◌, refl, T, eqb}
+use Rattle.std.specs.Prelude.{ℕ, ◌<◌, ◌≤◌, Bool, true, false, cond, ◌≡◌, refl, T, eqb}
 use Rattle.std.proofs.Common.{sym, ap, ◌∙◌, arith, eq-eqb, ne_eqb, eqb→eq}
 
 -- the number that refuses an input which fails the test; else what the later tests say
@@ -15,6 +15,11 @@ pub record Passed (test : Bool) (later : ℕ) : Type 0 where
 pub passed : (test : Bool) (number later : ℕ) → 0 < number → unless test number later ≡ 0 → Passed test later
 passed true number later h e = record { first = refl; rest = e }
 passed false number later h e = absurd (omega arith)
+
+-- the number of a chain of tests is one of theirs
+pub unless_most : (test : Bool) (number later most : ℕ) → number ≤ most → later ≤ most → unless test number later ≤ most
+unless_most true number later most n l = l
+unless_most false number later most n l = n
 
 -- ---- tests in front of later ones: the later ones count only where these refuse nothing
 abbrev pub InFront : (ℕ → ℕ) → Type 0

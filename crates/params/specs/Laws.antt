@@ -3,6 +3,9 @@
 use Rattle.std.specs.Prelude.{ℕ, zero, suc, ◌+◌, ◌*◌, ◌≤◌, ◌≡◌, Bool, true, false, cond, eqb, Ok, Err, refl}
 use Rattle.std.proofs.Common.{lit≤, sym, arith}
 use Rattle.std.proofs.lemmas.Bool.{eqb-true, eqb-false}
+use Rattle.params.specs.declared.Refusal.{Refusal}
+use Rattle.params.specs.declared.Refusal.TheVariants.{BadMode, BadKinds, BadPhase, Outside, NotWhole, NoSpectra, WrongLength}
+use Rattle.params.specs.declared.Refusal.TheVariants.{BadBound, BadGuard, TooWide, BadForm}
 use Rattle.params.specs.declared.Mode.{Mode}
 use Rattle.params.specs.declared.Mode.TheVariants.{M1, M2, M3}
 use Rattle.params.specs.Params.{carriers_per_segment, data_carriers_per_segment, total_carriers, fft_size}
@@ -50,3 +53,31 @@ answered_code {A} code x l = by (eqb code 0) refl
     by : (b : Bool) → eqb code 0 ≡ b → code_of {A = A} (cond b (Ok x) (Err (refusal_of code))) ≡ code
     by true e = sym (eqb-true code 0 e)
     by false e = numbered code (eqb-false code 0 e) l
+
+-- a refusal comes back from its number, whatever the call would have answered
+pub refused_again : {A : Type 0} (refusal : Refusal) (x : A) → Err refusal ≡ answered (refusal_number refusal) x
+refused_again BadMode x = refl
+refused_again BadKinds x = refl
+refused_again BadPhase x = refl
+refused_again Outside x = refl
+refused_again NotWhole x = refl
+refused_again NoSpectra x = refl
+refused_again WrongLength x = refl
+refused_again BadBound x = refl
+refused_again BadGuard x = refl
+refused_again TooWide x = refl
+refused_again BadForm x = refl
+
+-- and that number is not 0
+pub some_number : (refusal : Refusal) → refusal_number refusal ≡ 0 → ⊥
+some_number BadMode e = absurd (omega arith)
+some_number BadKinds e = absurd (omega arith)
+some_number BadPhase e = absurd (omega arith)
+some_number Outside e = absurd (omega arith)
+some_number NotWhole e = absurd (omega arith)
+some_number NoSpectra e = absurd (omega arith)
+some_number WrongLength e = absurd (omega arith)
+some_number BadBound e = absurd (omega arith)
+some_number BadGuard e = absurd (omega arith)
+some_number TooWide e = absurd (omega arith)
+some_number BadForm e = absurd (omega arith)

@@ -4,14 +4,14 @@
 
 ghost use Rattle.std.specs.Prelude.{◌≡◌, ◌<◌, length};
 ghost use Rattle.lists.specs.Lists.{up_to};
-ghost use Rattle.params.specs.Params.{mode_from, carriers_per_segment, total_carriers};
+ghost use Rattle.params.specs.Params.{mode_from, code_of, carriers_per_segment, total_carriers};
 ghost use Rattle.ofdm.specs.Band.{ZeroBand};
 ghost use Rattle.prbs.specs.Signs.{loaded, Step, sign_after, segment_signs, band_signs, edge_sign};
 ghost use Rattle.prbs.specs.Signs.{xor as Signs·xor};
 ghost use Rattle.prbs.specs.SignMap.{SignMap};
 
 use ofdm::{BandPlace, Segment};
-use params::{Mode, ModeNumber};
+use params::{Mode, Refusal};
 
 // The sign register of Figure 3-31: D1 to D11.
 #[derive(Clone, Copy)]
@@ -132,15 +132,13 @@ pub fn band_w(mode: Mode, out: &mut [u8])
 // Sign map: W of each carrier of the band, 0 for +4/3 and 1 for -4/3.
 //
 // Refused by 1 for a bad mode, 7 unless the output has k_total bytes.
-pub fn sign_map(mode: u8, out: &mut [u8]) -> u8
-    ensures { SignMap (mode_from mode) out.old result out.new }
+pub fn sign_map(mode: u8, out: &mut [u8]) -> Result<(), Refusal>
+    ensures { SignMap (mode_from mode) out.old (code_of result) out.new }
 {
-    let ModeNumber::Known(m) = Mode::from_number(mode) else {
-        return 1;
-    };
+    let m = Mode::try_from(mode)?;
     if out.len() != m.total_carriers() {
-        return 7;
+        return Err(Refusal::WrongLength);
     }
     band_w(m, out);
-    0
+    Ok(())
 }

@@ -3,20 +3,21 @@
 use Prim.Native.Nat.{ℕ, zero, suc, ◌+◌, ◌-◌, ◌*◌, ◌/◌, ◌≤◌, ◌<◌}
 use mathlib.Core.List.{List}
 use mathlib.Core.Path.{◌≡◌, sym, ap, ◌∙◌, subst}
-use borrow.Author.Tests.{ne_eqb}
 use native.Mathlib.Omega.{arith}
 use native.Mathlib.Nat.{lt_irrefl, zero-lt-suc, div-zero, le_trans, le-add_left, mul-suc, mul_assoc, mul-div-le, le-div_iff_mul-le}
 use lib.Ieee.{Float}
 use lib.ListN.{length, take, drop}
 use Rattle.complex.specs.Complex.{Pair, of32, norm32}
 use Rattle.spectra.specs.Codes as spectra
-use Rattle.spectra.specs.Flat.{length_part, bin_part}
+use Rattle.spectra.specs.Flat.{bin_part}
 use Rattle.spectra.specs.Spectra.{column, spectra_in, bin_pairs}
-use Rattle.ratio.specs.declared.BinRatio.{BinRatio}
-use Rattle.ratio.specs.declared.BinRatio.TheVariants.{Ratio, Refused}
+use Rattle.std.proofs.Common.{Ok, Err}
+use Rattle.params.specs.declared.Refusal.{Refusal}
+use Rattle.params.specs.Params.{refusal_number}
+use Rattle.params.specs.Laws.{refused_again}
 use Rattle.ratio.specs.declared.BinSums.{BinSums}
-use Rattle.ratio.specs.Ratio.{correlation, guarded, ratio_of, bin_ratio_code, bin_ratio_answer, bin_ratio_given, BinRatioTold}
-use Rattle.ratio.specs.EachBin.{pairs_accepted, accepted_ratio}
+use Rattle.ratio.specs.Ratio.{correlation, guarded, ratio_of, bin_ratio_code, bin_ratio_answer, BinRatioTold}
+use Rattle.ratio.specs.EachBin.{accepted_ratio}
 use Rattle.ratio.specs.Inner.{Summed}
 
 -- where there is a spectrum, there are bins
@@ -53,29 +54,17 @@ one_spectrum len n h = le_trans (le_mul (2 * len) (spectra_in len n) h) (mul-div
 pub some_pair : (n : ℕ) → bin_ratio_code n ≡ 0 → 2 ≤ n
 some_pair n e = let a = spectra.accepted 1 n 0 e in omega (arith, a.some)
 
-module _ (xs : List Float) (code : ℕ) (told : code ≡ bin_ratio_code (length xs)) where
-  pub bin_refused : (code ≡ 0 → ⊥) → BinRatioTold xs (Refused code)
+module _ (xs : List Float) where
+  pub bin_refused : (refusal : Refusal) → refusal_number refusal ≡ bin_ratio_code (length xs) → BinRatioTold xs (Err refusal)
   unfolding bin_ratio_answer
-  bin_refused h = record { number = told; answer = rw (← told, ne_eqb code 0 h) }
+  bin_refused refusal told = record { number = told; answer = rw (← told) (refused_again refusal _) }
 
-  pub bin_answered : (r : Float) → code ≡ 0 → r ≡ ratio_of (bin_pairs 1 xs 0) → BinRatioTold xs (Ratio r)
-  bin_answered r z e = record { number = sym z ∙ told; answer = sym (accepted_ratio xs (sym told ∙ z) ∙ ap Ratio (sym e)) }
+  pub bin_answered : (r : Float) → 0 ≡ bin_ratio_code (length xs) → r ≡ ratio_of (bin_pairs 1 xs 0) → BinRatioTold xs (Ok r)
+  bin_answered r told e = record { number = told; answer = sym (accepted_ratio xs (sym told) ∙ ap Ok (sym e)) }
 
 -- n pairs of a flat list from pair k on, 1 to 1,024 of them, have the ratio of these pairs
-pub part_ratio : (xs : List Float) (k n : ℕ) (a : BinRatio) → 2 * (k + n) ≤ length xs → 0 < n → n ≤ 1024
-    → BinRatioTold (take (2 * k + 2 * n - 2 * k) (drop (2 * k) xs)) a → a ≡ Ratio (ratio_of (column xs 1 k n))
-part_ratio xs k n a room some few t =
+pub part_ratio : (xs : List Float) (k n : ℕ) (r : Float) → 2 * (k + n) ≤ length xs → 0 < n
+    → r ≡ ratio_of (bin_pairs 1 (take (2 * k + 2 * n - 2 * k) (drop (2 * k) xs)) 0) → r ≡ ratio_of (column xs 1 k n)
+part_ratio xs k n r room some e =
     let size : 2 * k + 2 * n - 2 * k ≡ 2 * n = omega arith in
-    let all = length_part xs k n room in
-    rw size at t.answer ∙ accepted_ratio _ (rw all (pairs_accepted n some few)) ∙ ap (λ l. Ratio (ratio_of l)) (bin_part xs k n room)
-
--- so the answer is no refusal, and the ratio in it is theirs
-abbrev IsRefusal : BinRatio → Type 0
-IsRefusal (Ratio x) = ⊥
-IsRefusal (Refused code) = Unit
-
-pub not_refused : {a : BinRatio} {code : ℕ} {x : Float} → a ≡ Refused code → a ≡ Ratio x → ⊥
-not_refused e g = subst IsRefusal (sym e ∙ g) tt
-
-pub ratio_told : {a : BinRatio} {x y : Float} → a ≡ Ratio x → a ≡ Ratio y → x ≡ y
-ratio_told {a} {x} e g = ap (λ b. bin_ratio_given b x) (sym e ∙ g)
+    rw size at e ∙ ap ratio_of (bin_part xs k n room)

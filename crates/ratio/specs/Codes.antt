@@ -3,9 +3,9 @@
 -- Assumes nothing.
 use Rattle.std.specs.Prelude.{ℕ, ◌≤◌, ◌<◌, List, ◌≡◌, eqb, Float, length}
 use borrow.Author.Tests.{eqb-true, eq-eqb}
-use Rattle.std.proofs.Common.{lit<}
+use Rattle.std.proofs.Common.{lit<, lit≤}
 use Rattle.lists.specs.Select.{length_up_to}
-use Rattle.lists.specs.Refusals.{unless, passed, InFront, one_in_front, both_in_front}
+use Rattle.lists.specs.Refusals.{unless, unless_most, passed, InFront, one_in_front, both_in_front}
 use Rattle.spectra.specs.Spectra.{spectra_in, spectra_code}
 use Rattle.spectra.specs.Codes as spectra
 use Rattle.ratio.specs.Ratio.{bin_ratios, metric_code, metric_leaves, MetricTaken}
@@ -13,6 +13,9 @@ use Rattle.ratio.specs.Ratio.{bin_ratios, metric_code, metric_leaves, MetricTake
 pub later_counts : (len floats room : ℕ) → InFront (metric_code len floats room)
 later_counts len floats room =
     both_in_front (spectra_code len floats) (unless (eqb room len) 7) (spectra.later_counts len floats) (one_in_front (eqb room len) 7 (lit< tt))
+
+pub code_most : (len floats room later : ℕ) → later ≤ 11 → metric_code len floats room later ≤ 11
+code_most len floats room later l = spectra.code_most len floats _ (unless_most (eqb room len) 7 later 11 (lit≤ tt) l)
 
 pub record Accepted (len floats room later : ℕ) : Type 0 where
   pub some : 0 < spectra_in len floats

@@ -1,18 +1,18 @@
 -- A bin's ratio (acquire.rs, `continual_metric`), from the list of the bin's pairs in symbol order: |Σ p²| / Σ |p|², where p is the product
 -- of a pair and the conjugate of the one before it. Continual carriers give about 1. 0.0 where the energy is not above 0.
 -- Definitions only.
-use Rattle.std.specs.Prelude.{ℕ, Bool, cond, List, [], ◌∷◌, map, ◌≡◌, eqb, length, Float}
+use Rattle.std.specs.Prelude.{ℕ, Bool, cond, List, [], ◌∷◌, map, ◌≡◌, eqb, length, Float, Result}
 use Rattle.std.specs.Float.{binary32}
 use Rattle.std.specs.Float.Ieee.{div, lt}
 use Rattle.ieee.specs.Constants.{plus_zero}
 use Rattle.ieee.specs.Sums.{total}
 use Rattle.lists.specs.Lists.{up_to}
 use Rattle.lists.specs.Refusals.{unless}
+use Rattle.params.specs.declared.Refusal.{Refusal}
+use Rattle.params.specs.Params.{code_of, answered}
 use Rattle.complex.specs.Complex.{Pair, pair, product, conjugate, squared_size, norm32}
 use Rattle.complex.specs.Totals.{totals}
 use Rattle.spectra.specs.Spectra.{bin_pairs, spectra_code}
-use Rattle.ratio.specs.declared.BinRatio.{BinRatio}
-use Rattle.ratio.specs.declared.BinRatio.TheVariants.{Ratio, Refused}
 
 -- each pair after y, times the conjugate of the one before it
 unfoldable pub steps_from : Pair → List Pair → List Pair
@@ -56,22 +56,11 @@ bin_ratios len xs = up_to (λ b. ratio_of (bin_pairs len xs b)) len
 abbrev pub bin_ratio_code : ℕ → ℕ
 bin_ratio_code floats = spectra_code 1 floats 0
 
-unfoldable pub bin_ratio_answer : List Float → BinRatio
-bin_ratio_answer xs =
-    let code = bin_ratio_code (length xs) in
-    cond (eqb code 0) (Ratio (ratio_of (bin_pairs 1 xs 0))) (Refused code)
+unfoldable pub bin_ratio_answer : List Float → Result Float Refusal
+bin_ratio_answer xs = answered (bin_ratio_code (length xs)) (ratio_of (bin_pairs 1 xs 0))
 
--- the answer's number, and the ratio that it gives, or what was lent
-abbrev pub bin_ratio_number : BinRatio → ℕ
-bin_ratio_number (Ratio x) = 0
-bin_ratio_number (Refused code) = code
-
-abbrev pub bin_ratio_given : BinRatio → Float → Float
-bin_ratio_given (Ratio x) lent = x
-bin_ratio_given (Refused code) lent = lent
-
-pub record BinRatioTold (xs : List Float) (r : BinRatio) : Type 0 where
-  pub number : bin_ratio_number r ≡ bin_ratio_code (length xs)
+pub record BinRatioTold (xs : List Float) (r : Result Float Refusal) : Type 0 where
+  pub number : code_of r ≡ bin_ratio_code (length xs)
   pub answer : r ≡ bin_ratio_answer xs
 
 -- ---- the operation on spectra, with later tests behind: 5 unless whole spectra of len pairs, at most 1,024; 6 if none; 7 unless len ratios

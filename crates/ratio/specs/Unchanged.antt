@@ -2,7 +2,7 @@
 -- the sign of a zero; the gain multiplies both by its fourth power. What is read off the sums follows: the ratio is the same, bit for bit, and so
 -- is whether the energy is above zero; and so is the answer to one bin's pairs alone.
 -- Assumes nothing.
-use Rattle.std.specs.Prelude.{ℕ, zero, suc, ◌≤◌, ◌<◌, Bool, true, ◌⊎◌, ◌≡◌, eqb, Float}
+use Rattle.std.specs.Prelude.{ℕ, zero, suc, ◌≤◌, ◌<◌, Bool, true, ◌⊎◌, ◌≡◌, eqb, Float, Result, Ok, Err}
 use Rattle.std.proofs.Math.Bool.{false, cond}
 use mathlib.Core.List.{List, [], ◌∷◌, map}
 use Rattle.std.proofs.Math.Logic.{inl, inr}
@@ -26,7 +26,8 @@ use Rattle.spectra.specs.ChangedBins.{changed_from, WholePairs, changed_bin, who
 use Rattle.spectra.specs.Changes.{Changed, Allowed}
 use Rattle.spectra.specs.Codes as spectra
 use Rattle.spectra.specs.Spectra.{bin_pairs, spectra_in}
-use Rattle.ratio.specs.declared.BinRatio.TheVariants.{Ratio, Refused}
+use Rattle.params.specs.declared.Refusal.{Refusal}
+use Rattle.params.specs.Params.{refusal_of, answered}
 use Rattle.ratio.specs.Ratio.{steps_from, steps, square_of, size_of, correlation, energy, above_zero, guarded, ratio_of, bin_ratios}
 use Rattle.ratio.specs.Ratio.{bin_ratio_code, bin_ratio_answer}
 use Rattle.ratio.specs.Facts.{every_step}
@@ -212,14 +213,15 @@ changed_ratios c len xs ys N A h = up_to_same _ _ len (λ b B. changed_ratio_at 
 pub changed_answer : (c : Change) (xs ys : List Float) → Allowed c 1 xs → Changed c 1 (λ b. b) xs ys → bin_ratio_answer ys ≡ bin_ratio_answer xs
 unfolding bin_ratio_answer
 changed_answer c xs ys A h =
-    (λ i. cond (eqb (bin_ratio_code (h.long i)) 0) (Ratio (ratio_of (bin_pairs 1 ys 0))) (Refused (bin_ratio_code (h.long i)))) ∙ by (eqb code 0) refl
+    (λ i. answered (bin_ratio_code (h.long i)) (ratio_of (bin_pairs 1 ys 0))) ∙ by (eqb code 0) refl
   where
     code : ℕ
     code = bin_ratio_code (length xs)
 
     by : (b : Bool) → eqb code 0 ≡ b
-        → cond b (Ratio (ratio_of (bin_pairs 1 ys 0))) (Refused code) ≡ cond b (Ratio (ratio_of (bin_pairs 1 xs 0))) (Refused code)
+        → cond {A = Result Float Refusal} b (Ok (ratio_of (bin_pairs 1 ys 0))) (Err (refusal_of code))
+        ≡ cond b (Ok (ratio_of (bin_pairs 1 xs 0))) (Err (refusal_of code))
     by true e =
         let few = (spectra.accepted 1 (length xs) 0 (eqb-true code 0 e)).few in
-        ap Ratio (changed_ratio_at c 1 (λ b. b) xs ys 0 (lit< tt) few A h)
+        ap Ok (changed_ratio_at c 1 (λ b. b) xs ys 0 (lit< tt) few A h)
     by false e = refl

@@ -6,6 +6,7 @@
 ghost use Rattle.std.specs.Prelude.{◌≡◌, ◌+◌, ◌*◌, ◌<◌, ◌≤◌, length};
 ghost use Rattle.std.proofs.lemmas.List.Edits.{sets};
 ghost use Rattle.lists.specs.Lists.{up_to};
+ghost use Rattle.params.specs.Params.{code_of};
 ghost use Rattle.complex.specs.Complex.{of32, norm32};
 ghost use Rattle.spectra.specs.Spectra.{column, bin_pairs};
 ghost use Rattle.ratio.specs.Ratio.{guarded, ratio_of, bin_ratios, metric_code, MetricTaken, BinRatioTold};
@@ -14,13 +15,7 @@ ghost use Rattle.ratio.specs.Inner.{Started, Stepped, TermsPut, TermsAdded, Summ
 ghost use Rattle.ratio.specs.Inner.{Spreadable, Spread, Gatherable, Gathered, InBlock, Writable};
 
 use complex::C32;
-
-// One bin's ratio, or what refuses its pairs.
-#[derive(Clone, Copy)]
-pub enum BinRatio {
-    Ratio(f32),
-    Refused(u8),
-}
+use params::Refusal;
 
 // The sums of a bin: of the squares of its products, and of their squared sizes.
 #[derive(Clone, Copy)]
@@ -158,29 +153,23 @@ fn bin_sums(pairs: &[f32]) -> BinSums
 // The ratio of one bin, from its pairs alone in symbol order.
 //
 // Refused by 5 for an odd length or over 1,024 pairs, 6 for none: as spectra of one bin are.
-pub fn bin_ratio(pairs: &[f32]) -> BinRatio
+pub fn bin_ratio(pairs: &[f32]) -> Result<f32, Refusal>
     ensures { BinRatioTold pairs.now result }
 {
-    let code = spectra::refusal(1, pairs.len());
-    if code != 0 {
-        return BinRatio::Refused(code);
-    }
-    BinRatio::Ratio(bin_sums(pairs).ratio())
+    spectra::refusal(1, pairs.len())?;
+    Ok(bin_sums(pairs).ratio())
 }
 
-// What refuses `floats` floats as spectra of `len` pairs, with room for `room` ratios lent, or 0: 5
-// unless whole spectra, at most 1,024, 6 if none, 7 unless `len` ratios.
-pub fn refusal(len: usize, floats: usize, room: usize) -> u8
-    ensures { result ≡ metric_code len floats room 0 }
+// What refuses `floats` floats as spectra of `len` pairs, with room for `room` ratios lent: 5 unless
+// whole spectra, at most 1,024, 6 if none, 7 unless `len` ratios.
+pub fn refusal(len: usize, floats: usize, room: usize) -> Result<(), Refusal>
+    ensures { code_of result ≡ metric_code len floats room 0 }
 {
-    let code = spectra::refusal(len, floats);
-    if code != 0 {
-        return code;
-    }
+    spectra::refusal(len, floats)?;
     if room != len {
-        return 7;
+        return Err(Refusal::WrongLength);
     }
-    0
+    Ok(())
 }
 
 // Neighbouring bins in the copy: `width` of them from bin `first` on, each of `count` pairs one behind
@@ -237,17 +226,14 @@ fn gather(spectra: &[f32], len: usize, bins: BinBlock, block: &mut [f32])
     }
 }
 
-// The ratio of bin i of the copy. Nothing is refused, since a slot has 1 to 1,024 pairs of its bin.
+// The ratio of bin i of the copy, whose pairs nothing refuses: they are as many as there are spectra.
 fn ratio_in(block: &[f32], bins: BinBlock, i: usize) -> f32
     requires { InBlock bins i (length block.now) }
     ensures { result ≡ ratio_of (column block.now 1 (i * bins.slot) bins.count) }
 {
     let from = 2 * (i * bins.slot);
     let to = from + 2 * bins.count;
-    let BinRatio::Ratio(ratio) = bin_ratio(&block[from..to]) else {
-        return 0.0;
-    };
-    ratio
+    bin_sums(&block[from..to]).ratio()
 }
 
 // Stores the ratios of the bins of the copy, each at its bin.
@@ -293,13 +279,10 @@ fn write_ratios(spectra: &[f32], len: usize, out: &mut [f32])
 // Every bin's ratio, of spectra of `len` pairs, written to `out`.
 //
 // Refused by 5 unless whole spectra, at most 1,024, 6 if none, 7 unless `len` ratios.
-pub fn continual_metric(spectra: &[f32], len: usize, out: &mut [f32]) -> u8
-    ensures { MetricTaken len spectra.now out.old result out.new }
+pub fn continual_metric(spectra: &[f32], len: usize, out: &mut [f32]) -> Result<(), Refusal>
+    ensures { MetricTaken len spectra.now out.old (code_of result) out.new }
 {
-    let code = refusal(len, spectra.len(), out.len());
-    if code != 0 {
-        return code;
-    }
+    refusal(len, spectra.len(), out.len())?;
     write_ratios(spectra, len, out);
-    0
+    Ok(())
 }

@@ -1,8 +1,8 @@
 -- What the refusal of spectra decides: the tests behind it count only where it is 0, and then the floats are whole spectra, 1 to 1,024 of them.
 -- Assumes nothing.
 use Rattle.std.specs.Prelude.{ℕ, zero, suc, ◌+◌, ◌*◌, ◌%◌, ◌≤◌, ◌<◌, ◌≡◌, eqb, leb, ltb}
-use Rattle.std.proofs.Common.{zero-mul, zero-lt-suc, div-add-mod', arith, eqb-true, leb-true, ltb-true, lit<}
-use Rattle.lists.specs.Refusals.{unless, passed, InFront, one_in_front, both_in_front}
+use Rattle.std.proofs.Common.{zero-mul, zero-lt-suc, div-add-mod', arith, eqb-true, leb-true, ltb-true, lit<, lit≤}
+use Rattle.lists.specs.Refusals.{unless, unless_most, passed, InFront, one_in_front, both_in_front}
 use Rattle.lists.specs.Tests.{both_left, both_right}
 use Rattle.spectra.specs.Spectra.{spectra_in, are_spectra, spectra_code}
 
@@ -10,6 +10,10 @@ pub later_counts : (len n : ℕ) → InFront (spectra_code len n)
 later_counts len n =
     let whole = are_spectra len n in
     both_in_front (unless whole 5) (unless (ltb 0 n) 6) (one_in_front whole 5 (lit< tt)) (one_in_front (ltb 0 n) 6 (lit< tt))
+
+pub code_most : (len n later : ℕ) → later ≤ 11 → spectra_code len n later ≤ 11
+code_most len n later l =
+    unless_most (are_spectra len n) 5 _ 11 (lit≤ tt) (unless_most (ltb 0 n) 6 later 11 (lit≤ tt) l)
 
 pub record Accepted (len n later : ℕ) : Type 0 where
   pub whole : n % (2 * len) ≡ 0

@@ -2,10 +2,12 @@
 #![tactic(auto)]
 
 ghost use Rattle.std.specs.Prelude.{◌≡◌, ◌+◌, ◌*◌, ◌<◌, length};
+ghost use Rattle.params.specs.Params.{code_of};
 ghost use Rattle.complex.specs.Complex.{of32};
 ghost use Rattle.spectra.specs.Spectra.{pair_at, with_pair, spectra_code};
 
 use complex::C32;
+use params::Refusal;
 
 // Pair k.
 pub fn pair_at(xs: &[f32], k: usize) -> C32
@@ -31,25 +33,25 @@ pub fn put_pair(xs: &mut [f32], k: usize, v: C32)
     xs[j] = v.im;
 }
 
-// 5 unless n floats are whole spectra of len pairs, at most 1,024; 6 if none; else 0.
-pub fn refusal(len: usize, n: usize) -> u8
-    ensures { result ≡ spectra_code len n 0 }
+// 5 unless n floats are whole spectra of len pairs, at most 1,024; 6 if none.
+pub fn refusal(len: usize, n: usize) -> Result<(), Refusal>
+    ensures { code_of result ≡ spectra_code len n 0 }
 {
     if n == 0 {
-        return 6;
+        return Err(Refusal::NoSpectra);
     }
     if len == 0 {
-        return 5;
+        return Err(Refusal::NotWhole);
     }
     if n / 2 < len {
-        return 5;
+        return Err(Refusal::NotWhole);
     }
     let w = 2 * len;
     if n % w != 0 {
-        return 5;
+        return Err(Refusal::NotWhole);
     }
     if n / w > 1024 {
-        return 5;
+        return Err(Refusal::NotWhole);
     }
-    0
+    Ok(())
 }

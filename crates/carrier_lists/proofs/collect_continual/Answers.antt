@@ -1,13 +1,7 @@
 -- `carrier_lists::collect_continual` meets its contract: the groups are counted first, and then stored behind one another.
 -- Assumes nothing.
-use Rattle.frame.specs.Roles.{between}
-use Rattle.carrier_lists.proofs.Stored.{chosen_fewer, refused_short, has_all_room, stored_whole}
-use native.Mathlib.Omega.{arith}
+use Rattle.carrier_lists.proofs.Stored.{refused_short, has_all_room, stored_whole}
 use Rattle.carrier_lists.proofs.collect_continual.Goals as goal
-
-pub overflow_add-n : goal.overflow_add-n
-overflow_add-n c =
-    omega (arith, chosen_fewer (between 2 5) 0 c.args.roles.now)
 
 pub returns-then-out-n : goal.returns-then-out-n
 returns-then-out-n c =
