@@ -1,5 +1,6 @@
 -- What the tests on the way to a return make of the definition of `detect_kinds`.
 -- Assumes nothing.
+use Rattle.std.proofs.Common.{Option, Some, None}
 use Prim.Native.Nat.{ℕ}
 use mathlib.Core.Bool.{true, false}
 use mathlib.Core.List.{List}
@@ -9,8 +10,6 @@ use lib.Dec.{eqb}
 use lib.ListN.{length}
 use lib.Ieee.{Float}
 use Rattle.params.specs.declared.Mode.{Mode}
-use Rattle.params.specs.declared.ModeNumber.{ModeNumber}
-use Rattle.params.specs.declared.ModeNumber.TheVariants.{Known, Unknown}
 use Rattle.params.specs.Params.{total_carriers}
 use Rattle.ratio.specs.Ratio.{bin_ratios, metric_code, metric_leaves, MetricTaken}
 use Rattle.ratio.specs.Codes.{ratios_length, left_written}
@@ -19,21 +18,21 @@ use Rattle.segment_kinds.specs.SegmentKinds.{kinds_code, kinds_leaves, kinds_ans
 use Rattle.segment_kinds.specs.Inner.{AllDetected, NoKinds}
 
 -- ---- the returns
-pub bad_mode : (number : ModeNumber) (xs old : List Float) (r : DetectedKinds) → number ≡ Unknown → NoKinds 1 r → KindsDetected number xs old r old
+pub bad_mode : (number : Option Mode) (xs old : List Float) (r : DetectedKinds) → number ≡ None → NoKinds 1 r → KindsDetected number xs old r old
 unfolding kinds_code kinds_leaves kinds_answer scores_answer
 bad_mode number xs old r e a = rw e (record { code = a.same; kinds = a.kinds; scores = a.scores; leaves = refl })
 
 -- a known mode: n is what `continual_metric` answered, and now what it left of its k ratios
-module _ (number : ModeNumber) (m : Mode) (known : number ≡ Known m) (xs old now : List Float) (k n : ℕ) (sizes : k ≡ total_carriers m)
+module _ (number : Option Mode) (m : Mode) (known : number ≡ Some m) (xs old now : List Float) (k n : ℕ) (sizes : k ≡ total_carriers m)
     (taken : MetricTaken k xs old n now) where
   abbrev code : ℕ
-  code = kinds_code (Known m) (length xs) (length old)
+  code = kinds_code (Some m) (length xs) (length old)
 
   code_is : n ≡ code
   unfolding kinds_code
   code_is = taken.code ∙ ap (λ (z : ℕ). metric_code z (length xs) (length old) 0) sizes
 
-  leaves_is : now ≡ kinds_leaves (Known m) xs old
+  leaves_is : now ≡ kinds_leaves (Some m) xs old
   unfolding kinds_leaves
   leaves_is = taken.leaves ∙ ap (λ (z : ℕ). metric_leaves z xs old) sizes
 

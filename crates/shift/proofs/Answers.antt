@@ -1,5 +1,7 @@
 -- What `integer_cfo` returns: each refusal, and the winner's shift and score.
 -- Assumes nothing.
+use Rattle.params.specs.declared.Refusal.{Refusal}
+use Rattle.std.proofs.Common.{Option, Some, None, Result, Ok, Err}
 use Prim.Native.Nat.{ℕ, ◌+◌, ◌*◌, ◌/◌, ◌<◌, ◌≤◌}
 use mathlib.Core.List.{List}
 use mathlib.Core.Path.{◌≡◌, sym, ap, ◌∙◌}
@@ -9,16 +11,12 @@ use lib.IntN.{ℤ, pos}
 use lib.ListN.{length}
 use lib.Ieee.{Float, binary32, minus, div, of_int}
 use Rattle.params.specs.declared.Mode.{Mode}
-use Rattle.params.specs.declared.ModeNumber.{ModeNumber}
-use Rattle.params.specs.declared.ModeNumber.TheVariants.{Known, Unknown}
-use Rattle.params.specs.Params.{fft_size}
+use Rattle.params.specs.Params.{fft_size, refusal_of, code_of, answered}
 use Rattle.params.specs.Laws.{sized}
 use Rattle.ratio.specs.Ratio.{bin_ratios, metric_code, MetricTaken}
 use Rattle.ratio.specs.Codes.{ratios_length, left_written}
 use Rattle.shift.specs.declared.Best.{Best}
-use Rattle.shift.specs.declared.ShiftAnswer.{ShiftAnswer}
-use Rattle.shift.specs.declared.ShiftAnswer.TheVariants.{Found, Refused}
-use Rattle.shift.specs.Shift.{pattern, score_of, winner, best_shift, shift_code, shift_leaves, shift_answer, shift_number, Shifted}
+use Rattle.shift.specs.Shift.{pattern, score_of, winner, best_shift, shift_code, shift_leaves, shift_answer, Shifted}
 use Rattle.shift.specs.Facts.{shift_number_lem}
 use Rattle.shift.specs.Inner.{Bounded, BestFound}
 use Rattle.shift.proofs.Segments.{pattern_inside}
@@ -49,24 +47,24 @@ best_is : (m : Mode) (xs now : List Float) (bins : List ℕ) (n bound : ℕ) (be
 best_is m xs now bins n bound best size left are found = found.wins ∙ rw (left, ratios_length n xs, size, are)
 
 -- ---- the returns: `read` is what the mode's number was read as
-module _ (number read : ModeNumber) (told : read ≡ number) (xs old : List Float) (bound : ℕ) where
+module _ (number read : Option Mode) (told : read ≡ number) (xs old : List Float) (bound : ℕ) where
   -- the answer's number follows from the answer
-  shifted : (r : ShiftAnswer) (now : List Float) → r ≡ shift_answer number xs bound (length old) → now ≡ shift_leaves number xs bound old
+  shifted : (r : Result FoundShift Refusal) (now : List Float) → r ≡ shift_answer number xs bound (length old) → now ≡ shift_leaves number xs bound old
       → Shifted number xs bound old r now
-  shifted r now a l = record { number = ap shift_number a ∙ shift_number_lem number xs bound (length old); answer = a; leaves = l }
+  shifted r now a l = record { number = ap code_of a ∙ shift_number_lem number xs bound (length old); answer = a; leaves = l }
 
-  pub bad_mode : read ≡ Unknown → Shifted number xs bound old (Refused 1) old
+  pub bad_mode : read ≡ None → Shifted number xs bound old (Err (refusal_of 1)) old
   unfolding shift_answer shift_leaves
   bad_mode e = shifted _ _ (rw (← told, e)) (rw (← told, e))
 
-  module _ (m : Mode) (known : read ≡ Known m) where
-    pub refused : (k : ℕ) → shift_code (Known m) (length xs) (length old) bound ≡ k → (k ≡ 0 → ⊥) → Shifted number xs bound old (Refused k) old
+  module _ (m : Mode) (known : read ≡ Some m) where
+    pub refused : (k : ℕ) → shift_code (Some m) (length xs) (length old) bound ≡ k → (k ≡ 0 → ⊥) → Shifted number xs bound old (Err (refusal_of k)) old
     unfolding shift_answer shift_leaves
     refused k e h = shifted _ _ (rw (← told, known, e, ne_eqb k 0 h)) (rw (← told, known, e, ne_eqb k 0 h))
 
-    pub answered : (bins : List ℕ) (now : List Float) (n count : ℕ) (best : Best) (z : ℤ) → shift_code (Known m) (length xs) (length old) bound ≡ 0
+    pub answered : (bins : List ℕ) (now : List Float) (n count : ℕ) (best : Best) (z : ℤ) → shift_code (Some m) (length xs) (length old) bound ≡ 0
         → n ≡ fft_size m → now ≡ bin_ratios n xs → bins ≡ pattern m → count ≡ length bins → BestFound bins now bound best → z ≡ minus best.at bound
-        → Shifted number xs bound old (Found (record { shift = z; score = div binary32 best.sum (of_int binary32 (pos count)) })) now
+        → Shifted number xs bound old (Ok (record { shift = z; score = div binary32 best.sum (of_int binary32 (pos count)) })) now
     unfolding shift_answer shift_leaves score_of
     answered bins now n count best z code size left are long found from =
         let best = best_is m xs now bins n bound best size left are found in
