@@ -253,7 +253,7 @@ fn write_block(block: &[f32], bins: BinBlock, out: &mut [f32])
 // The ratios of an accepted call. A slot has a line of the cache more than the bin's pairs, since slots
 // that lie a power of two apart share too few of the cache's places; two lines of bins are copied at a
 // time where the block's 8,256 pairs have room.
-fn write_ratios(spectra: &[f32], len: usize, out: &mut [f32])
+pub fn write_ratios(spectra: &[f32], len: usize, out: &mut [f32])
     requires { Accepted len (length spectra.now) (length out.old) 0 }
     ensures { out.new ≡ bin_ratios len spectra.now }
 {

@@ -8,23 +8,25 @@
 -- call tells the winner and leaves the ratios, each of which is what `bin_ratio` answers for its bin (`shift_each`).
 -- Assumes nothing.
 use Rattle.params.specs.declared.Refusal.{Refusal}
-use Rattle.std.specs.Prelude.{ℕ, ◌+◌, ◌*◌, ◌<◌, true, List, ◌≡◌, refl, pos, length, Option, Some, None, Result, Ok, Err}
+use Rattle.std.specs.Prelude.{ℕ, ◌+◌, ◌*◌, ◌/◌, ◌<◌, leb, true, List, ◌≡◌, refl, pos, length, Option, Some, None, Result, Ok}
 use Rattle.std.proofs.Math.Bool.{false}
 use Rattle.std.proofs.Math.Logic.{inl, inr}
 use Rattle.std.proofs.Math.Path.{sym, ap}
-use Rattle.std.proofs.Common.{◌∙◌, subst, arith}
+use Rattle.std.proofs.Common.{◌∙◌, subst, arith, lit≤}
 use Rattle.std.proofs.Math.Dec.{T}
 use Rattle.std.proofs.Math.IntN.{ℤ}
 use Rattle.std.specs.Float.Ieee.{Float, minus, lt, le, is_nan}
-use Rattle.lists.specs.Refusals.{numbered}
+use Rattle.lists.specs.Refusals.{unless_most}
+use Rattle.params.specs.Laws.{answered_code}
 use Rattle.ieee.specs.Constants.{lowest}
 use Rattle.ieee.specs.Numbers.{same_bool}
 use Rattle.ieee.specs.Order.{le_self}
 use Rattle.params.specs.declared.Mode.{Mode}
 use Rattle.params.specs.declared.Mode.TheVariants.{M1, M2, M3}
-use Rattle.params.specs.Params.{fft_size, refusal_of, code_of}
+use Rattle.params.specs.Params.{fft_size, code_of}
+use Rattle.shift.specs.declared.FoundShift.{FoundShift}
 use Rattle.ratio.specs.Ratio.{bin_ratios}
-use Rattle.ratio.specs.Codes.{accepted}
+use Rattle.ratio.specs.Codes.{accepted, code_most}
 use Rattle.ratio.specs.EachBin.{EachBin, each_bin}
 use Rattle.shift.specs.Shift.{winner, sum_at, best_shift, found_of, pattern_carriers, pattern, shift_code, shift_leaves, shift_answer, Shifted}
 use Rattle.shift.specs.Searches.{found_kind, found_most, found_first, found_nan}
@@ -73,7 +75,9 @@ pub shift_number_lem : (mode : Option Mode) (xs : List Float) (bound room : ℕ)
     → code_of (shift_answer mode xs bound room) ≡ shift_code mode (length xs) room bound
 unfolding shift_answer shift_code
 shift_number_lem None xs bound room = refl
-shift_number_lem (Some m) xs bound room = numbered code_of Err (refusal_of (shift_code (Some m) (length xs) room bound)) _ refl (λ k. refl)
+shift_number_lem (Some m) xs bound room =
+    answered_code (shift_code (Some m) (length xs) room bound) _
+    (code_most (fft_size m) (length xs) room _ (unless_most (leb bound (fft_size m / 2)) 8 0 11 (lit≤ tt) (lit≤ tt)))
 
 -- what an accepted call answers, and what it leaves
 module _ (m : Mode) (xs old : List Float) (bound : ℕ) (accepted : shift_code (Some m) (length xs) (length old) bound ≡ 0) where

@@ -2,7 +2,8 @@
 -- ratios at every shift from -bound to bound, and the greatest sum wins.
 -- Definitions only.
 use Rattle.params.specs.declared.Refusal.{Refusal}
-use Rattle.std.specs.Prelude.{ℕ, suc, ◌+◌, ◌-◌, ◌*◌, ◌/◌, ◌%◌, cond, List, [], ◌∷◌, ◌++◌, map, ◌≡◌, eqb, leb, ℤ, pos, negsuc, get_or, length, Float, Option, Some, None, Result, Ok, Err}
+use Rattle.params.specs.declared.Refusal.TheVariants.{BadMode}
+use Rattle.std.specs.Prelude.{ℕ, suc, ◌+◌, ◌-◌, ◌*◌, ◌/◌, ◌%◌, cond, List, [], ◌∷◌, ◌++◌, map, ◌≡◌, eqb, leb, ℤ, pos, negsuc, get_or, length, Float, Option, Some, None, Result, Err}
 use Rattle.std.specs.Float.{nan, binary32}
 use Rattle.std.specs.Float.Ieee.{minus, lt, div, of_int}
 use Rattle.ieee.specs.Constants.{minus_zero, lowest}
@@ -11,7 +12,7 @@ use Rattle.lists.specs.Lists.{range, joined}
 use Rattle.lists.specs.Refusals.{unless}
 use Rattle.params.specs.declared.Mode.{Mode}
 use Rattle.params.specs.declared.SegmentKind.TheVariants.{Coherent}
-use Rattle.params.specs.Params.{fft_size, carriers_per_segment, total_carriers, refusal_of, code_of}
+use Rattle.params.specs.Params.{fft_size, carriers_per_segment, total_carriers, code_of, answered}
 use Rattle.tables.specs.Places.{ac1_of}
 use Rattle.ofdm.specs.Band.{place_of, bin_of}
 use Rattle.ratio.specs.Ratio.{bin_ratios, metric_code}
@@ -74,21 +75,10 @@ shift_leaves (Some m) xs bound old = cond (eqb (shift_code (Some m) (length xs) 
 
 -- the answer
 unfoldable pub shift_answer : Option Mode → List Float → ℕ → ℕ → Result FoundShift Refusal
-shift_answer None xs bound room = Err (refusal_of 1)
+shift_answer None xs bound room = Err BadMode
 shift_answer (Some m) xs bound room =
     let w = best_shift (fft_size m) (pattern m) bound (bin_ratios (fft_size m) xs) in
-    let code = shift_code (Some m) (length xs) room bound in
-    cond (eqb code 0) (Ok (found_of (pattern m) w)) (Err (refusal_of code))
-
--- the number of an answer: 0, or the refusal's
-abbrev pub code_of : Result FoundShift Refusal → ℕ
-code_of (Ok found) = 0
-code_of (Err (refusal_of code)) = code
-
--- what a found shift tells, or what was lent
-abbrev pub shift_given : {A : Type 0} → (FoundShift → A) → Result FoundShift Refusal → A → A
-shift_given told (Ok found) lent = told found
-shift_given told (Err (refusal_of code)) lent = lent
+    answered (shift_code (Some m) (length xs) room bound) (found_of (pattern m) w)
 
 pub record Shifted (mode : Option Mode) (xs : List Float) (bound : ℕ) (old : List Float) (r : Result FoundShift Refusal) (now : List Float) : Type 0 where
   pub number : code_of r ≡ shift_code mode (length xs) (length old) bound
