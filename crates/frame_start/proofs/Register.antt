@@ -1,30 +1,37 @@
 -- The register of the last sixteen bits, carried from value to value: a word stands where the register holds its number, and nowhere else.
 -- Assumes nothing.
-use Prim.Native.Nat.{ℕ, ◌+◌, ◌*◌, ◌%◌, ◌≤◌, ◌<◌}
+use Prim.Native.Nat.{ℕ, ◌+◌, ◌*◌, ◌%◌, ◌-◌, ◌≤◌, ◌<◌}
 use mathlib.Core.List.{List, [], ◌∷◌, map}
 use mathlib.Core.Logic.{◌⊎◌, inl, inr}
-use mathlib.Core.Path.{◌≡◌, sym, ap, ◌∙◌}
+use mathlib.Core.Path.{◌≡◌, refl, sym, ap, ◌∙◌}
+use Rattle.std.proofs.Common.{Some, None}
+use Rattle.std.specs.List.{fold, take-map}
 use native.Mathlib.Omega.{arith}
 use native.Mathlib.Nat.{le_of_suc-le-suc, eq-or-lt_of_le}
 use native.Mathlib.Numerals.{add-one}
 use lib.Arith.{digits_mod}
 use lib.Ieee.{Float}
 use lib.ListN.{length, get_or, take, drop, length-map, length-drop, get_or-map}
-use lib.Seq.{take-suc, take-add, take_all, length-take-le}
-use Rattle.frame_start.specs.FrameStart.{bit_of, word_bits, Stands, StartTold}
+use lib.Seq.{take-suc, take-add, length-take-le}
+use Rattle.frame_start.specs.FrameStart.{bit_of, word_bits, start_at, Stands, StartTold}
 use Rattle.frame_start.specs.Inner.{behind, shifted_in, register}
 use Rattle.frame_start.specs.Facts.{word_length, start_inside}
 use Rattle.frame_start.specs.declared.SyncWord.{SyncWord}
 use Rattle.frame_start.specs.declared.SyncWord.TheVariants.{W0, W1}
-use Rattle.frame_start.specs.declared.FrameStart.TheVariants.{Start, NoStart}
 use Rattle.frame_start.proofs.Bits.{behind_append, behind_front, behind_below, same_bits}
 use Rattle.frame_start.proofs.Bits.{bit_below, read_bits, word_bits_lem, take_bits, drop_bits}
 
-pub shifted_fits : (bits b : ℕ) (v : Float) → b ≡ bit_of v → shifted_in bits b < 65536
-shifted_fits bits b v e = omega (arith, bit_below v)
-
 shifted_mod : (n b : ℕ) → b < 2 → shifted_in (n % 65536) b ≡ (n * 2 + b) % 65536
 shifted_mod n b h = omega arith
+
+-- the fold over values, each shifted in
+folded : (n : ℕ) (vs : List Float) → fold (λ bits v. shifted_in bits (bit_of v)) (n % 65536) vs ≡ behind n (map bit_of vs) % 65536
+folded n [] = refl
+folded n (v ∷ vs) = rw (shifted_mod n (bit_of v) (bit_below v)) (folded (n * 2 + bit_of v) vs)
+
+folded_first : (i : ℕ) (soft : List Float) → fold (λ bits v. shifted_in bits (bit_of v)) 0 (take i soft) ≡ register soft i
+unfolding register
+folded_first i soft = rw (take-map bit_of i soft) (folded 0 (take i soft))
 
 module _ (soft : List Float) where
   abbrev read : List ℕ
@@ -37,13 +44,6 @@ module _ (soft : List Float) where
       let inside : i < length read = rw (length-map soft bit_of) h in
       rw (add-one i, take-suc read i (bit_of d) inside, behind_append 0 (take i read) (get_or read i (bit_of d) ∷ []), get_or-map bit_of soft i d)
       (shifted_mod (behind 0 (take i read)) (bit_of (get_or soft i d)) (bit_below (get_or soft i d)))
-
-  -- where the list has ended, nothing more comes in
-  pub register_ended : (i j : ℕ) → length soft ≤ i → length soft ≤ j → register soft i ≡ register soft j
-  unfolding register
-  register_ended i j h g =
-      let all : (n : ℕ) → length soft ≤ n → take n read ≡ read = λ n l. take_all n read (rw (length-map soft bit_of) l) in
-      rw (all i h, all j g)
 
   module _ (f : ℕ) (h : f + 16 ≤ length soft) where
     -- the values from f to f + 15
@@ -78,10 +78,10 @@ pub record Searched (soft : List Float) (bits f : ℕ) : Type 0 where
   pub held : bits ≡ register soft (f + 15)
   pub none : (g : ℕ) (w : SyncWord) → g < f → Stands soft g w → ⊥
 
-pub begin : (soft : List Float) (bits : ℕ) → bits ≡ register soft 15 → Searched soft bits 0
-begin soft bits e = record { inside = omega arith; held = e; none = λ g w l s. omega arith }
+pub begin : (soft : List Float) (bits : ℕ) → bits ≡ fold (λ bits v. shifted_in bits (bit_of v)) 0 (take 15 soft) → Searched soft bits 0
+begin soft bits e = record { inside = omega arith; held = e ∙ folded_first 15 soft; none = λ g w l s. omega arith }
 
-pub end : (soft : List Float) (bits f : ℕ) → Searched soft bits f → length soft ≤ f + 15 → StartTold soft NoStart
+pub end : (soft : List Float) (bits f : ℕ) → Searched soft bits f → length soft - 15 ≤ f → StartTold soft None
 unfolding StartTold
 end soft bits f c h g w s = c.none g w (omega (arith, start_inside soft g w s)) s
 
@@ -91,7 +91,7 @@ module _ (soft : List Float) (bits f b : ℕ) (d : Float) (c : Searched soft bit
   held : b ≡ register soft (f + 16)
   held = let next : f + 15 + 1 ≡ f + 16 = omega arith in e ∙ rw c.held (rw next at (register_next soft (f + 15) d h))
 
-  pub word_found : (w : SyncWord) → b ≡ behind 0 (word_bits w) → StartTold soft (Start f w)
+  pub word_found : (w : SyncWord) → b ≡ behind 0 (word_bits w) → StartTold soft (Some (start_at f w))
   unfolding StartTold
   word_found w q = holds_word soft f (omega arith) w (sym held ∙ q)
 

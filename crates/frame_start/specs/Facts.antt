@@ -1,7 +1,7 @@
 -- What a user of the frame start may rely on: a start lies in the list with all of its word; at one start stands one word; fewer than sixteen values
 -- have no start; and of values handed over by their bits, neither a zero's sign nor what a NaN carries matters.
 -- Assumes nothing.
-use Rattle.std.specs.Prelude.{ℕ, ◌+◌, ◌≤◌, ◌<◌, Bool, true, false, cond, List, [], ◌∷◌, map, ◌≡◌, refl, T, Float, length, get_or, take, drop}
+use Rattle.std.specs.Prelude.{ℕ, ◌+◌, ◌≤◌, ◌<◌, Bool, true, false, cond, List, [], ◌∷◌, map, ◌≡◌, refl, T, Option, Some, None, Float, length, get_or, take, drop}
 use Rattle.std.proofs.Common.{sym, ap, ◌∙◌, subst, arith, length-take, length-drop}
 use Rattle.std.specs.Float.{binary32}
 use Rattle.std.specs.Float.Ieee.{lt, of_bits, nan_bits}
@@ -10,15 +10,14 @@ use Rattle.std.specs.Float.Ieee.Compare.{differs_from_itself}
 use Rattle.std.proofs.lemmas.List.{length-map}
 use Rattle.ieee.specs.Constants.{plus_zero}
 use Rattle.ieee.specs.Order.{nan_lt, ne_self}
-use Rattle.frame_start.specs.FrameStart.{word_bits, bit_of, Stands, StartTold}
+use Rattle.frame_start.specs.FrameStart.{word_bits, bit_of, start_at, Stands, StartTold}
 use Rattle.frame_start.specs.declared.SyncWord.{SyncWord}
 use Rattle.frame_start.specs.declared.SyncWord.TheVariants.{W0, W1}
 use Rattle.frame_start.specs.declared.FrameStart.{FrameStart}
-use Rattle.frame_start.specs.declared.FrameStart.TheVariants.{Start, NoStart}
 
 -- ---- starts
 -- every start at which a word stands may be told
-pub any_start : (soft : List Float) (f : ℕ) (w : SyncWord) → Stands soft f w → StartTold soft (Start f w)
+pub any_start : (soft : List Float) (f : ℕ) (w : SyncWord) → Stands soft f w → StartTold soft (Some (start_at f w))
 unfolding StartTold
 any_start soft f w s = s
 
@@ -43,21 +42,21 @@ one_word soft f W0 W1 s t = absurd (let first : 0 ≡ 1 = ap (λ (bs : List ℕ)
 one_word soft f W1 W0 s t = absurd (let first : 1 ≡ 0 = ap (λ (bs : List ℕ). get_or bs 0 0) (sym s ∙ t) in omega arith)
 
 -- of fewer than sixteen values "no start" is told, and nothing else
-pub too_short : (soft : List Float) → length soft < 16 → StartTold soft NoStart
+pub too_short : (soft : List Float) → length soft < 16 → StartTold soft None
 unfolding StartTold
 too_short soft h f w s = omega (arith, start_inside soft f w s)
 
-pub too_short_only : (soft : List Float) (r : FrameStart) → length soft < 16 → StartTold soft r → r ≡ NoStart
+pub too_short_only : (soft : List Float) (r : Option FrameStart) → length soft < 16 → StartTold soft r → r ≡ None
 unfolding StartTold
-too_short_only soft (Start f w) h t = absurd (omega (arith, start_inside soft f w t))
-too_short_only soft NoStart h t = refl
+too_short_only soft (Some s) h t = absurd (omega (arith, start_inside soft s.start s.word t))
+too_short_only soft None h t = refl
 
 -- ---- values
 -- what is told depends on the bits alone
-pub told_alike : (xs ys : List Float) → map bit_of xs ≡ map bit_of ys → (r : FrameStart) → StartTold xs r → StartTold ys r
+pub told_alike : (xs ys : List Float) → map bit_of xs ≡ map bit_of ys → (r : Option FrameStart) → StartTold xs r → StartTold ys r
 unfolding StartTold Stands
-told_alike xs ys e (Start f w) t = ap (λ (bs : List ℕ). take 16 (drop f bs)) (sym e) ∙ t
-told_alike xs ys e NoStart t = λ f w s. t f w (ap (λ (bs : List ℕ). take 16 (drop f bs)) e ∙ s)
+told_alike xs ys e (Some s) t = ap (λ (bs : List ℕ). take 16 (drop s.start bs)) (sym e) ∙ t
+told_alike xs ys e None t = λ f w s. t f w (ap (λ (bs : List ℕ). take 16 (drop f bs)) e ∙ s)
 
 -- ---- values by their bits, as a caller hands them over: zeros of both signs read as 0, and so does every NaN
 abbrev pub zero_pattern : Bool → ℕ
@@ -101,5 +100,5 @@ alike_bits (p ∷ ps) [] h = absurd h
 alike_bits (p ∷ ps) (q ∷ qs) h = rw (alike_bit p q h.0, alike_bits ps qs h.1)
 
 -- of such lists the same is told
-pub patterns_alike : (ps qs : List ℕ) → AllAlike ps qs → (r : FrameStart) → StartTold (values ps) r → StartTold (values qs) r
+pub patterns_alike : (ps qs : List ℕ) → AllAlike ps qs → (r : Option FrameStart) → StartTold (values ps) r → StartTold (values qs) r
 patterns_alike ps qs h = told_alike (values ps) (values qs) (alike_bits ps qs h)

@@ -1,14 +1,13 @@
 -- The definition at a few lists, so that a reader sees it work: either word spelt by values of -1.0 and 1.0; unusual values; a list with two
 -- starts, of which either may be told; and values that have none until one more is added.
 -- Assumes nothing.
-use Rattle.std.specs.Prelude.{ℕ, cond, List, [], ◌∷◌, ◌++◌, map, ◌≡◌, refl, eqb, Float, take}
+use Rattle.std.specs.Prelude.{ℕ, cond, List, [], ◌∷◌, ◌++◌, map, ◌≡◌, refl, eqb, Some, None, Float, take}
 use Rattle.std.proofs.Common.{lit<}
 use Rattle.std.specs.Float.{binary32}
 use Rattle.std.specs.Float.Ieee.{lt, of_bits}
-use Rattle.frame_start.specs.FrameStart.{written, word_bits, bit_of, Stands, StartTold}
+use Rattle.frame_start.specs.FrameStart.{written, word_bits, bit_of, start_at, Stands, StartTold}
 use Rattle.frame_start.specs.Facts.{too_short}
 use Rattle.frame_start.specs.declared.SyncWord.TheVariants.{W0, W1}
-use Rattle.frame_start.specs.declared.FrameStart.TheVariants.{Start, NoStart}
 
 -- -1.0 for each 1, and 1.0 for each 0
 abbrev spelt : List ℕ → List Float
@@ -28,9 +27,9 @@ unusual : map (λ b. bit_of (of_bits binary32 b)) (0 ∷ 0x8000_0000 ∷ 0x7fc0_
 unfolding bit_of lt of_bits
 unusual = refl
 
-either : StartTold (spelt (word_bits W1 ++ written)) (Start 0 W1) × StartTold (spelt (word_bits W1 ++ written)) (Start 16 W0)
+either : StartTold (spelt (word_bits W1 ++ written)) (Some (start_at 0 W1)) × StartTold (spelt (word_bits W1 ++ written)) (Some (start_at 16 W0))
 unfolding StartTold Stands bit_of lt of_bits
 either = (refl, refl)
 
-one_short : StartTold (spelt (take 15 written)) NoStart
+one_short : StartTold (spelt (take 15 written)) None
 one_short = too_short (spelt (take 15 written)) (lit< tt)

@@ -2,9 +2,10 @@
 // which sixteen of them spell one of the two synchronising words of ARIB STD-B31.
 #![tactic(auto)]
 
-ghost use Rattle.std.specs.Prelude.{◌≡◌};
+ghost use Rattle.std.specs.Prelude.{◌≡◌, take};
+ghost use Rattle.std.specs.List.{fold};
 ghost use Rattle.frame_start.specs.FrameStart.{word_code, bit_of, StartTold};
-ghost use Rattle.frame_start.specs.Inner.{shifted_in, register};
+ghost use Rattle.frame_start.specs.Inner.{shifted_in};
 
 // The words, the first bit the highest.
 const W0: u16 = 0b0011_0101_1110_1110;
@@ -12,18 +13,18 @@ const W0: u16 = 0b0011_0101_1110_1110;
 const W1: u16 = 0b1100_1010_0001_0001;
 
 // A synchronising word: as the standard writes it, or its complement.
-#[derive(Clone, Copy)]
+#[derive(Clone, Copy, Debug, PartialEq, Eq)]
 pub enum SyncWord {
     W0,
     W1,
 }
 
-impl SyncWord {
-    // 0 for the word as written, 1 for its complement.
-    pub fn code(self) -> u8
-        ensures { result ≡ word_code self }
-    {
-        match self {
+// 0 for the word as written, 1 for its complement.
+impl From<SyncWord> for u8 {
+    ghost from_gives = { λ word code. code ≡ word_code word };
+
+    fn from(word: SyncWord) -> u8 {
+        match word {
             SyncWord::W0 => 0,
             SyncWord::W1 => 1,
         }
@@ -31,10 +32,10 @@ impl SyncWord {
 }
 
 // The index of a word's first value, and which word it is.
-#[derive(Clone, Copy)]
-pub enum FrameStart {
-    Start(usize, SyncWord),
-    NoStart,
+#[derive(Clone, Copy, Debug, PartialEq, Eq)]
+pub struct FrameStart {
+    pub start: usize,
+    pub word: SyncWord,
 }
 
 // The bit that a soft value reads as: a NaN and zeros of both signs are not below zero.
@@ -46,6 +47,7 @@ fn bit(value: f32) -> u16
 }
 
 // The last sixteen bits with that of one value more: the oldest is shifted out.
+#[tactic(auto, using(crate::proofs::Bits::bit_below))]
 fn shifted(bits: u16, value: f32) -> u16
     ensures { result ≡ shifted_in bits (bit_of value) }
 {
@@ -54,34 +56,34 @@ fn shifted(bits: u16, value: f32) -> u16
 
 // The bits of the first fifteen values, or of all where there are fewer.
 fn first_bits(soft: &[f32]) -> u16
-    ensures { result ≡ register soft.now 15 }
+    ensures { result ≡ fold (λ bits v. shifted_in bits (bit_of v)) 0 (take 15 soft.now) }
 {
-    let mut bits: u16 = 0;
-    let mut i: usize = 0;
-    while i < 15 && i < soft.len() {
-        bits = shifted(bits, soft[i]);
-        i += 1;
-    }
-    bits
+    soft.iter()
+        .take(15)
+        .fold(0, |bits, value| shifted(bits, *value))
 }
 
 // A start at which one of the words stands. Each value is read once: the last sixteen bits are carried
 // along from start to start.
-#[tactic(auto, using(crate::proofs::Register::word_found))]
-pub fn frame_start(soft: &[f32]) -> FrameStart
+#[tactic(auto, using(crate::proofs::Register::begin, crate::proofs::Register::word_found))]
+pub fn frame_start(soft: &[f32]) -> Option<FrameStart>
     ensures { StartTold soft.now result }
 {
     let mut bits = first_bits(soft);
-    let mut f: usize = 0;
-    while f + 15 < soft.len() {
-        bits = shifted(bits, soft[f + 15]);
+    for start in 0..soft.len().saturating_sub(15) {
+        bits = shifted(bits, soft[start + 15]);
         if bits == W0 {
-            return FrameStart::Start(f, SyncWord::W0);
+            return Some(FrameStart {
+                start,
+                word: SyncWord::W0,
+            });
         }
         if bits == W1 {
-            return FrameStart::Start(f, SyncWord::W1);
+            return Some(FrameStart {
+                start,
+                word: SyncWord::W1,
+            });
         }
-        f += 1;
     }
-    FrameStart::NoStart
+    None
 }

@@ -1,7 +1,7 @@
 -- What the C functions return and leave: the number of the operation's answer, and for each lent number what the answer gives, or what was lent.
 -- Both are the definitions of the crates that own the answers.
 -- Definitions only.
-use Rattle.std.specs.Prelude.{ℕ, cond, List, ◌≡◌, eqb, ℤ, length, Float}
+use Rattle.std.specs.Prelude.{ℕ, cond, List, ◌≡◌, eqb, ℤ, length, Option, Float}
 use Rattle.params.specs.declared.ModeNumber.{ModeNumber}
 use Rattle.ofdm.specs.Band.{bin_lookup, bin_number, bin_given}
 use Rattle.carrier_role.specs.declared.RoleAnswer.{RoleAnswer}
@@ -92,7 +92,7 @@ pub record PhaseLent (mode : ModeNumber) (kinds : List ℕ) (xs : List Float) (f
 
 -- ---- the frame start: s and w are lent for the start and its word's code. Nothing refuses, and any answer that may be told is one
 pub record StartLent (soft : List Float) (s w r f' s' w' : ℕ) : Type 0 where
-  pub answer : FrameStart
+  pub answer : Option FrameStart
   pub told : StartTold soft answer
   pub code : r ≡ 0
   pub found : f' ≡ start_found answer

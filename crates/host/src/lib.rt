@@ -25,7 +25,6 @@ ghost use Rattle.tmcc.specs.Tmcc.{soft_answer};
 use carrier_lists::ContinualList;
 use carrier_role::RoleAnswer;
 use complex::{C32, C64};
-use frame_start::FrameStart;
 use guess::GuardSearch;
 use ofdm::{BandCarrier, BinLookup};
 use pilot_phase::{PhaseAnswer, PilotPhase};
@@ -275,13 +274,13 @@ pub fn sillurwy_frame_start(soft: &[f32], found: &mut u8, start: &mut usize, wor
     ensures { StartLent soft.now start.old word.old result
         found.new start.new word.new }
 {
-    let FrameStart::Start(f, spelt) = frame_start::frame_start(soft) else {
+    let Some(told) = frame_start::frame_start(soft) else {
         *found = 0;
         return 0;
     };
     *found = 1;
-    *start = f;
-    *word = spelt.code();
+    *start = told.start;
+    *word = told.word.into();
     0
 }
 

@@ -1,35 +1,32 @@
 -- The cases of what a read returned.
 -- Assumes nothing.
-use Rattle.std.specs.Prelude.{ℕ, ◌≤◌, Bool, true, false, cond, ◌≡◌, refl, T, eqb, ℤ, pos, negsuc, nat_abs}
-use Rattle.std.proofs.Common.{ap, subst, arith, ltb-true, ne_eqb}
-use Rattle.std.specs.Int.Signed.{lt_z, non_neg}
-use Rattle.reading.specs.declared.Input.TheVariants.{More, Ended, Failed}
+use Rattle.std.specs.Prelude.{ℕ, ◌≤◌, zero, suc, Some, None, Result, Ok, Err, ◌≡◌, refl, IfOk, IfSome}
+use Rattle.std.proofs.Common.{arith}
+use Rattle.std.specs.declared.io.Error.{Error}
 use Rattle.reading.specs.Read.{read_told, Moved}
 
-pub told_failed : (z : ℤ) → lt_z z (pos 0) ≡ true → Failed ≡ read_told z
+pub told_failed : (e : Error) → Err e ≡ read_told (Err e)
 unfolding read_told
-told_failed (pos k) e = let none = ltb-true k 0 e in absurd (omega arith)
-told_failed (negsuc k) e = refl
+told_failed e = refl
 
-pub told_ended : (z : ℤ) → z ≡ pos 0 → Ended ≡ read_told z
+pub told_ended : (k : ℕ) → k ≡ 0 → Ok None ≡ read_told (Ok k)
 unfolding read_told
-told_ended z e = rw e
+told_ended k e = rw e
 
-pub not_below : (z : ℤ) → lt_z z (pos 0) ≡ false → T (non_neg z)
-not_below (pos k) e = tt
-not_below (negsuc k) e = subst T e tt
-
-pub told_more : (z : ℤ) → lt_z z (pos 0) ≡ false → (z ≡ pos 0 → ⊥) → More (nat_abs z) ≡ read_told z
+pub told_more : (k : ℕ) → (k ≡ 0 → ⊥) → Ok (Some k) ≡ read_told (Ok k)
 unfolding read_told
-told_more (pos k) e h = rw (ne_eqb k 0 (λ z. h (ap pos z)))
-told_more (negsuc k) e h = absurd (subst T e tt)
+told_more zero h = absurd (h refl)
+told_more (suc k) h = refl
 
 -- a read counts no more bytes than the buffer has
-pub more_within : (z : ℤ) (n k : ℕ) → Moved n z → read_told z ≡ More k → k ≤ n
+pub more_within : (got : Result ℕ Error) (n k : ℕ) → Moved n got → read_told got ≡ Ok (Some k) → k ≤ n
 unfolding read_told
-more_within (negsuc i) n k m e = absurd (let z : ◌≡◌ {A = ℕ} 0 1 = cc in omega arith)
-more_within (pos i) n k m e = by (eqb i 0) e
-  where
-    by : (b : Bool) → cond b Ended (More i) ≡ More k → k ≤ n
-    by true e = absurd (let z : ◌≡◌ {A = ℕ} 0 1 = cc in omega arith)
-    by false e = let same : i ≡ k = cc in omega (arith, m)
+more_within (Err e) n k m q = absurd (cc)
+more_within (Ok zero) n k m q = absurd (cc)
+more_within (Ok (suc i)) n k m q = let same : suc i ≡ k = cc in omega (arith, m)
+
+pub turn_within : (got : Result ℕ Error) (n : ℕ) → Moved n got → IfOk (read_told got) (λ found. IfSome found (λ k. k ≤ n))
+unfolding read_told
+turn_within (Err e) n m = tt
+turn_within (Ok zero) n m = tt
+turn_within (Ok (suc i)) n m = m

@@ -2,27 +2,27 @@
 // failed read for the end would answer half a line as a whole one.
 #![tactic(auto)]
 
-ghost use Rattle.std.specs.Prelude.{◌≡◌};
+ghost use Rattle.std.specs.Prelude.{◌≡◌, ◌≤◌, length, IfOk, IfSome};
 ghost use Rattle.reading.specs.Read.{read_told};
 
-// So many bytes were read, the input has ended, or a read or a write failed.
-#[derive(Clone, Copy)]
-pub enum Input {
-    More(usize),
-    Ended,
-    Failed,
-}
+use std::io;
+use std::io::Read;
 
-// What a read returned says of the input.
-#[tactic(auto, using(crate::proofs::Cases::failed_read, crate::proofs::Cases::ended_read, crate::proofs::Cases::more_read))]
-pub fn told(got: isize) -> Input
+// What a read returned says of the input: so many bytes were read, none as it has ended, or it failed.
+#[tactic(auto, using(crate::specs::Laws::told_failed, crate::specs::Laws::told_ended, crate::specs::Laws::told_more))]
+pub fn told(got: io::Result<usize>) -> io::Result<Option<usize>>
     ensures { result ≡ read_told got }
 {
-    if got < 0 {
-        return Input::Failed;
+    match got {
+        Ok(0) => Ok(None),
+        Ok(n) => Ok(Some(n)),
+        Err(error) => Err(error),
     }
-    if got == 0 {
-        return Input::Ended;
-    }
-    Input::More(got as usize)
+}
+
+// Reads once: so many bytes stand at the start of the buffer, or the input has ended.
+pub fn read(input: &mut impl Read, buffer: &mut [u8]) -> io::Result<Option<usize>>
+    ensures { IfOk result (λ found. IfSome found (λ n. n ≤ length buffer.new)) }
+{
+    told(input.read(buffer))
 }

@@ -1,17 +1,16 @@
 -- The most votes: the walk over the phases picks the phase that `won_by` picks and the count that `next_to` picks.
 -- Assumes nothing.
-use Prim.Native.Nat.{ℕ, zero, suc, ◌+◌, ◌-◌, ◌≤◌, ◌<◌}
+use Prim.Native.Nat.{ℕ, zero, suc, ◌+◌, ◌-◌, ◌≤◌, ◌<◌, max}
 use mathlib.Core.Bool.{cond}
 use mathlib.Core.List.{List, ◌∷◌}
 use mathlib.Core.Path.{◌≡◌, refl, sym, ◌∙◌}
 use native.Mathlib.Numerals.{add-one}
 use native.Mathlib.Omega.{arith}
-use borrow.Author.Tests.{lt-ltb, le-ltb, le-leb, lt-leb, eq-eqb, ne_eqb}
+use borrow.Author.Tests.{le-ltb, le-leb, lt-leb, eq-eqb, ne_eqb}
 use lib.Dec.{eqb}
-use lib.ListN.{get_or, drop, drop_of_length-le}
+use lib.ListN.{get_or, drop}
 use lib.Seq.{drop-cons}
 use Rattle.winner.specs.Winner.{better, won_by, larger, largest, others, next_to}
-use Rattle.winner.specs.Inner.{Won}
 use Rattle.winner.specs.Facts.{larger_one, larger_high, other_at}
 
 -- ---- the phase with the most
@@ -40,9 +39,6 @@ module _ {counts : List ℕ} {best p : ℕ} (b : Best counts best p) where
   pub best_same : p < 4 → get_or counts p 0 < get_or counts best 0 → Best counts best (p + 1)
   best_same h l = record { passed = omega arith; phase = b.phase; same = rw (lt-leb _ _ l) at (next h) }
 
-  pub best_done : 4 ≤ p → Won counts best
-  best_done h = let z : 4 - p ≡ 0 = omega arith in record { won = rw z at b.same; phase = b.phase }
-
 -- ---- the largest of the others
 larger_regroup : (x z m : ℕ) → larger x (larger z m) ≡ larger (larger z x) m
 larger_regroup x z m =
@@ -55,9 +51,6 @@ larger_regroup x z m =
     let low = larger_one (λ v. v ≤ right) x (larger z m) (omega arith) (larger_one (λ v. v ≤ right) z m (omega arith) (omega arith)) in
     let high = larger_one (λ v. v ≤ left) (larger z x) m (larger_one (λ v. v ≤ left) z x (omega arith) (omega arith)) (omega arith) in
     omega (arith, low, high)
-
-larger_none : (m : ℕ) → larger m 0 ≡ m
-larger_none m = omega (arith, larger_high m 0, larger_one (λ v. v ≤ m) m 0 (omega arith) (omega arith))
 
 -- the most before phase q, and the phases ahead, come to the most of all
 pub record Most (counts : List ℕ) (p most q : ℕ) : Type 0 where
@@ -81,11 +74,9 @@ module _ {counts : List ℕ} {p most q : ℕ} (m : Most counts p most q) where
   pub most_same : q < 4 → q ≡ p → Most counts p most (q + 1)
   most_same h i = rw (le-ltb most 0 (omega arith)) at (again 0 h (rw (eq-eqb q p i)))
 
-  pub most_less : q < 4 → (q ≡ p → ⊥) → get_or counts q 0 ≤ most → Most counts p most (q + 1)
-  most_less h i l = rw (le-ltb most (get_or counts q 0) l) at (again (get_or counts q 0) h (rw (ne_eqb q p i)))
-
-  pub most_more : q < 4 → (q ≡ p → ⊥) → most < get_or counts q 0 → Most counts p (get_or counts q 0) (q + 1)
-  most_more h i l = rw (lt-ltb most (get_or counts q 0) l) at (again (get_or counts q 0) h (rw (ne_eqb q p i)))
-
-  pub most_done : 4 ≤ q → most ≡ next_to counts p
-  most_done h = sym (larger_none most) ∙ (rw (drop_of_length-le (others counts p) h) at m.same)
+  pub most_other : q < 4 → (q ≡ p → ⊥) → Most counts p (max most (get_or counts q 0)) (q + 1)
+  most_other h i =
+      let v = get_or counts q 0 in
+      let e : larger v most ≡ max most v =
+      omega (arith, larger_high v most, larger_one (λ x. x ≤ max most v) v most (omega arith) (omega arith)) in
+      rw e at (again v h (rw (ne_eqb q p i)))

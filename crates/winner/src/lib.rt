@@ -11,12 +11,10 @@ pub fn won_by(counts: [u32; 4]) -> usize
     ensures { Won counts result }
 {
     let mut best: usize = 0;
-    let mut p: usize = 1;
-    while p < 4 {
+    for p in 1..4 {
         if counts[best] <= counts[p] {
             best = p;
         }
-        p += 1;
     }
     best
 }
@@ -26,19 +24,16 @@ fn next_to(counts: [u32; 4], p: usize) -> u32
     ensures { result ≡ next_to counts p }
 {
     let mut most: u32 = 0;
-    let mut q: usize = 0;
-    while q < 4 {
+    for q in 0..4 {
         if q != p {
-            if most < counts[q] {
-                most = counts[q];
-            }
+            most = most.max(counts[q]);
         }
-        q += 1;
     }
     most
 }
 
 // By how many votes the phase with the most leads.
+#[tactic(auto, using(crate::specs::Facts::next_below), unfolding(crate::specs::Winner::lead_of))]
 pub fn lead_of(counts: [u32; 4]) -> u32
     ensures { result ≡ lead_of counts }
 {
@@ -47,10 +42,10 @@ pub fn lead_of(counts: [u32; 4]) -> u32
 }
 
 // The share of so many votes, of zero spectra as of one.
+#[tactic(auto, using(crate::proofs::Shares::share_by))]
 pub fn share_of(votes: u32, total: usize) -> f32
     requires { Few votes total }
     ensures { result ≡ share_of votes total }
 {
-    let all = if total == 0 { 1 } else { total };
-    votes as f32 / all as f32
+    votes as f32 / total.max(1) as f32
 }

