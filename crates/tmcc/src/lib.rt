@@ -46,7 +46,7 @@ fn add_places(start: f32, mode: Mode, place: BandPlace, places: &[u16], spectra:
         let k = ofdm::band_carrier(mode, place, SegmentPlace(*p as usize));
         let later = spectra::pair_at(spectra, len + k.0);
         let earlier = spectra::pair_at(spectra, k.0);
-        let product = later.mul(earlier.conj());
+        let product = later * earlier.conj();
         sum = sum + product.re;
     }
     sum
