@@ -31,7 +31,7 @@ pub fn write_prefixes(samples: &[f32], n: usize, scratch: &mut [f64])
     for i in 0..len {
         let a = spectra::pair_at(samples, i);
         let b = spectra::pair_at(samples, i + n);
-        let p = a.mul(b.conj()).widen();
+        let p = (a * b.conj()).widen();
         re += p.re;
         im += p.im;
         energy += f64::from(a.norm_sqr() + b.norm_sqr()) * HALF;

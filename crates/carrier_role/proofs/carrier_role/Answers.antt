@@ -1,5 +1,7 @@
 -- `carrier_role::carrier_role` meets its contract: each return is the case of the definition that the tests on the way decide.
 -- Assumes nothing.
+use Prim.Native.Nat.{◌≤◌}
+use native.Mathlib.Omega.{arith}
 use Rattle.std.proofs.lemmas.Result.{err_from_is_err_and}
 use Rattle.carrier_role.proofs.Answers.{refused_layout, refused_phase, refused_carrier, answered}
 use Rattle.carrier_role.proofs.carrier_role.Goals as goal
@@ -14,7 +16,8 @@ returns-then-phase-gt3 c = refused_phase _ _ _ c.in_ok-layout.ensures c.if-phase
 
 pub returns-then-total_carriers-k : goal.returns-then-total_carriers-k
 returns-then-total_carriers-k c =
-    refused_carrier _ _ _ c.in_ok-layout.ensures c.if-phase-gt3.false (rw c.total_carriers.ensures at c.if-total_carriers-k.true)
+    let in_phases : c.args.phase ≤ 3 = omega arith in
+    refused_carrier _ _ _ c.in_ok-layout.ensures in_phases (rw c.total_carriers.ensures at c.if-total_carriers-k.true)
 
 pub returns : goal.returns
 returns c =
