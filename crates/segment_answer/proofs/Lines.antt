@@ -1,6 +1,6 @@
 -- Lines that are stored piece by piece and one behind another.
 -- Assumes nothing.
-use Prim.Native.Nat.{ℕ, ◌+◌, ◌*◌, ◌-◌, ◌<◌}
+use Prim.Native.Nat.{ℕ, ◌+◌, ◌*◌, ◌<◌}
 use mathlib.Core.List.{List, ◌++◌}
 use mathlib.Core.Path.{◌≡◌, refl, sym, ◌∙◌}
 use native.Mathlib.Nat.{add-zero}
@@ -14,7 +14,7 @@ use Rattle.lists.specs.Fill.{joined_range}
 use Rattle.params.specs.declared.Mode.{Mode}
 use Rattle.params.specs.declared.SegmentKind.{SegmentKind}
 use Rattle.params.specs.declared.SegmentKind.TheVariants.{Coherent}
-use Rattle.params.specs.Params.{carriers_per_segment, kind_from, kind_code}
+use Rattle.params.specs.Params.{carriers_per_segment, kind_code}
 use Rattle.params.specs.Laws.{sized}
 use Rattle.ofdm.specs.Band.{segment_at}
 use Rattle.ofdm.specs.Laws.{segment_ends}

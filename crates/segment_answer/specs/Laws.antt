@@ -1,6 +1,6 @@
 -- The line of a segment in terms of a question's bytes, and the cases of a line's answer.
 -- Assumes nothing.
-use Rattle.std.specs.Prelude.{ℕ, ◌+◌, ◌*◌, ◌-◌, ◌≤◌, ◌<◌, List, ◌∷◌, ◌++◌, ◌≡◌, length, get_or, Option}
+use Rattle.std.specs.Prelude.{ℕ, ◌+◌, ◌*◌, ◌<◌, List, ◌∷◌, ◌++◌, ◌≡◌, length, get_or, Option}
 use Rattle.std.proofs.Common.{append_assoc, sym, arith, eq-eqb, ne_eqb}
 use Rattle.params.specs.declared.Mode.{Mode}
 use Rattle.params.specs.declared.SegmentKind.{SegmentKind}

@@ -1,8 +1,9 @@
 -- `segment_answer::put_answer` meets its contract: the line is refused, or its question's segments are listed.
 -- Assumes nothing.
+use Rattle.params.specs.Laws.{some_number}
 use Rattle.text.specs.Laws.{then, put_as}
 use Rattle.segment_answer.specs.Laws.{refused_answer}
-use Rattle.segment_answer.proofs.Lines.{question_lines, refuses}
+use Rattle.segment_answer.proofs.Lines.{question_lines}
 use Rattle.segment_answer.proofs.put_answer.Goals as goal
 
 pub returns-in-Ok-clause-put : goal.returns-in-Ok-clause-put
@@ -11,4 +12,4 @@ returns-in-Ok-clause-put c =
     (then c.put_segments-edge.ensures.put c.put_edge.ensures.put)
 
 pub returns-in-Err-clause-put : goal.returns-in-Err-clause-put
-returns-in-Err-clause-put c = put_as (refused_answer c.args.line.now _ c.in-Err.ensures.code (refuses c.in-Err.refusal)) c.put_refused.ensures.put
+returns-in-Err-clause-put c = put_as (refused_answer c.args.line.now _ c.in-Err.ensures.code (some_number c.in-Err.refusal)) c.put_refused.ensures.put
