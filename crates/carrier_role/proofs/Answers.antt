@@ -8,10 +8,10 @@ use mathlib.Core.Path.{◌≡◌, refl, ap, ◌∙◌}
 use native.Mathlib.Omega.{arith}
 use borrow.Author.Tests.{lt-ltb, le-ltb}
 use Rattle.params.specs.declared.Mode.{Mode}
-use Rattle.params.specs.Params.{total_carriers, code_of}
+use Rattle.params.specs.Params.{total_carriers, code_of, kind_codes}
 use Rattle.frame.specs.declared.CarrierRole.{CarrierRole}
 use Rattle.frame.specs.declared.FrameLayout.{FrameLayout}
-use Rattle.frame.specs.Roles.{role_at, wide, kind_codes}
+use Rattle.frame.specs.Roles.{role_at, wide}
 use Rattle.frame.specs.Inner.{Accepted, RefusedLayout}
 use Rattle.frame.specs.Answers.{by_refusal}
 use Rattle.params.specs.declared.Refusal.TheVariants.{BadPhase, Outside}

@@ -6,8 +6,8 @@
 ghost use Rattle.std.specs.Prelude.{◌≡◌, ◌<◌};
 ghost use Rattle.lists.specs.Tests.{memb};
 ghost use Rattle.lists.specs.Select.{Ascending};
-ghost use Rattle.params.specs.Params.{mode_from, total_carriers};
-ghost use Rattle.frame.specs.Roles.{ofdm_segment, place_role, role_at, kind_codes, wide};
+ghost use Rattle.params.specs.Params.{mode_from, total_carriers, kind_codes};
+ghost use Rattle.frame.specs.Roles.{ofdm_segment, place_role, role_at, wide};
 ghost use Rattle.carrier_role.specs.Inner.{table_role};
 ghost use Rattle.carrier_role.specs.CarrierRole.{RoleTold};
 
@@ -16,7 +16,7 @@ use ofdm::{BandCarrier, BandPlace, Segment, SegmentPlace};
 use params::{Mode, Refusal, SegmentKind};
 
 // Whether a row of a table has a place. A row ascends, so the first entry that is not below the place
-// decides.
+// decides, where `contains` would read the row to its end.
 fn has_place(row: &[u16], p: SegmentPlace) -> bool
     requires { Ascending row.now }
     ensures { result ≡ memb p.0 row.now }

@@ -12,8 +12,7 @@ use Rattle.params.specs.declared.Refusal.{Refusal}
 use Rattle.params.specs.declared.Refusal.TheVariants.{BadMode, BadKinds}
 use Rattle.params.specs.declared.SegmentKind.{SegmentKind}
 use Rattle.params.specs.declared.SegmentKind.TheVariants.{Coherent, Differential}
-use Rattle.params.specs.Params.{kind_code, kind_from, refusal_number}
-use Rattle.frame.specs.Roles.{kind_codes}
+use Rattle.params.specs.Params.{kind_code, kind_from, refusal_number, kind_codes}
 use Rattle.frame.specs.declared.FrameLayout.{FrameLayout}
 use Rattle.frame.specs.Operations.{are_kinds, symbol_tests, SymbolAnswer, symbol_code, symbol_leaves}
 use Rattle.frame.specs.Inner.{Accepted, RefusedLayout}

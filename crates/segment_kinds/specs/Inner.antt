@@ -3,15 +3,13 @@
 use Rattle.std.specs.Prelude.{ℕ, ◌+◌, ◌*◌, ◌≤◌, ◌<◌, Bool, not, List, ◌++◌, map, ◌≡◌, pos, get_or, length, Float}
 use Rattle.std.specs.Float.{nan, binary32}
 use Rattle.std.specs.Float.Ieee.{div, of_int}
-use Rattle.ieee.specs.Constants.{plus_zero, minus_zero}
+use Rattle.ieee.specs.Constants.{minus_zero}
 use Rattle.ieee.specs.Sums.{total}
-use Rattle.lists.specs.Lists.{up_to, select, Inside}
+use Rattle.lists.specs.Lists.{select, Inside}
 use Rattle.lists.specs.Tests.{memb}
 use Rattle.params.specs.declared.Mode.{Mode}
 use Rattle.params.specs.Params.{carriers_per_segment, total_carriers}
-use Rattle.segment_kinds.specs.declared.DetectedKinds.{DetectedKinds}
 use Rattle.segment_kinds.specs.declared.Mean.{Mean}
-use Rattle.segment_kinds.specs.SegmentKinds.{kind_scores, detected_kinds}
 
 -- in neither list of coherent places: `telling` of a segment, by its rows
 abbrev pub is_telling : List ℕ → List ℕ → ℕ → Bool
@@ -50,15 +48,3 @@ pub record Scorable (mode : Mode) (ac2 differential : List ℕ) : Type 0 where
   pub ac2_inside : Inside ac2 (carriers_per_segment mode)
   pub tmcc_short : length differential ≤ 20
   pub tmcc_inside : Inside differential (carriers_per_segment mode)
-
--- kinds and scores of all segments of a band with these ratios
-pub record AllDetected (mode : Mode) (ratios : List Float) (r : DetectedKinds) : Type 0 where
-  pub code : r.code ≡ 0
-  pub kinds : r.kinds ≡ detected_kinds mode ratios
-  pub scores : r.scores ≡ kind_scores mode ratios
-
--- a refusal: kinds and scores are zeros
-pub record NoKinds (code : ℕ) (r : DetectedKinds) : Type 0 where
-  pub same : r.code ≡ code
-  pub kinds : r.kinds ≡ up_to (λ seg. 0) 13
-  pub scores : r.scores ≡ up_to (λ seg. plus_zero binary32) 13

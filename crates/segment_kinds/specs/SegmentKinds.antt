@@ -1,7 +1,7 @@
 -- The kinds of the thirteen segments (acquire.rs, `detect_kinds`; document 01, "Ratios, shift and kinds"): a segment is differential where
 -- the carriers that are continual in a differential segment only have a mean ratio above 0.5.
 -- Definitions only.
-use Rattle.std.specs.Prelude.{ℕ, ◌+◌, ◌*◌, Bool, not, cond, List, ◌∷◌, ◌++◌, map, ◌≡◌, eqb, pos, get_or, length, Float, Option, Some, None}
+use Rattle.std.specs.Prelude.{ℕ, ◌+◌, ◌*◌, Bool, not, cond, List, ◌∷◌, ◌++◌, map, ◌≡◌, eqb, pos, get_or, length, Float, Option, Some, None, Result, IfOk}
 use Rattle.std.specs.Float.{nan, binary32}
 use Rattle.std.specs.Float.Ieee.{lt, div, of_int}
 use Rattle.ieee.specs.Constants.{plus_zero, minus_zero, half32}
@@ -10,7 +10,8 @@ use Rattle.lists.specs.Lists.{up_to, select}
 use Rattle.lists.specs.Tests.{memb}
 use Rattle.params.specs.declared.Mode.{Mode}
 use Rattle.params.specs.declared.SegmentKind.TheVariants.{Coherent, Differential}
-use Rattle.params.specs.Params.{carriers_per_segment, total_carriers}
+use Rattle.params.specs.declared.Refusal.{Refusal}
+use Rattle.params.specs.Params.{carriers_per_segment, total_carriers, kind_codes, code_of}
 use Rattle.tables.specs.Places.{tmcc_of, ac1_of, ac2_of}
 use Rattle.ofdm.specs.Band.{place_of}
 use Rattle.ratio.specs.Ratio.{bin_ratios, metric_code, metric_leaves}
@@ -66,8 +67,11 @@ scores_answer None xs room = up_to (λ seg. plus_zero binary32) 13
 scores_answer (Some m) xs room =
     cond (eqb (kinds_code (Some m) (length xs) room) 0) (kind_scores m (bin_ratios (total_carriers m) xs)) (up_to (λ seg. plus_zero binary32) 13)
 
-pub record KindsDetected (mode : Option Mode) (xs old : List Float) (r : DetectedKinds) (now : List Float) : Type 0 where
-  pub code : r.code ≡ kinds_code mode (length xs) (length old)
-  pub kinds : r.kinds ≡ kinds_answer mode xs (length old)
-  pub scores : r.scores ≡ scores_answer mode xs (length old)
+pub record AllDetected (ks : List ℕ) (ss : List Float) (found : DetectedKinds) : Type 0 where
+  pub kinds : kind_codes found.kinds ≡ ks
+  pub scores : found.scores ≡ ss
+
+pub record KindsDetected (mode : Option Mode) (xs old : List Float) (r : Result DetectedKinds Refusal) (now : List Float) : Type 0 where
+  pub code : code_of r ≡ kinds_code mode (length xs) (length old)
+  pub found : IfOk r (AllDetected (kinds_answer mode xs (length old)) (scores_answer mode xs (length old)))
   pub leaves : now ≡ kinds_leaves mode xs old

@@ -4,20 +4,19 @@
 #![tactic(auto)]
 
 ghost use Rattle.std.specs.Prelude.{◌≡◌, ◌<◌, ◌∷◌, ◌++◌, length};
-ghost use Rattle.params.specs.Params.{mode_from, total_carriers};
-ghost use Rattle.segment_kinds.specs.SegmentKinds.{kind_score, kind_of_score, KindsDetected};
-ghost use Rattle.segment_kinds.specs.Inner.{is_telling, ratio_at, Addable, Added, kept, mean_of, Scorable, Banded, AllDetected, NoKinds};
+ghost use Rattle.params.specs.Params.{mode_from, total_carriers, kind_code};
+ghost use Rattle.segment_kinds.specs.SegmentKinds.{kind_score, kind_of_score, kind_scores, detected_kinds, AllDetected, KindsDetected};
+ghost use Rattle.segment_kinds.specs.Inner.{is_telling, ratio_at, Addable, Added, kept, mean_of, Scorable, Banded};
 
 use ofdm::{BandPlace, Segment, SegmentPlace};
-use params::{Mode, ModeNumber, SegmentKind};
+use params::{Mode, Refusal, SegmentKind};
 
 const HALF: f32 = 0.5;
 
-// The refusal's number or 0; then, by segment number, kinds as codes and their scores.
+// Kinds and their scores, by segment number.
 #[derive(Clone, Copy)]
 pub struct DetectedKinds {
-    pub code: u8,
-    pub kinds: [u8; 13],
+    pub kinds: [SegmentKind; 13],
     pub scores: [f32; 13],
 }
 
@@ -101,57 +100,41 @@ fn segment_score(mode: Mode, seg: Segment, ratios: &[f32]) -> f32
     segment.mean_ratio(ac2, differential)
 }
 
-// 1, differential, above 0.5; else 0, coherent.
-fn kind_of(score: f32) -> u8
-    ensures { result ≡ kind_of_score score }
+// Differential above 0.5, else coherent.
+fn kind_of(score: f32) -> SegmentKind
+    ensures { kind_code result ≡ kind_of_score score }
 {
-    if score > HALF { 1 } else { 0 }
+    if score > HALF {
+        SegmentKind::Differential
+    } else {
+        SegmentKind::Coherent
+    }
 }
 
 // The kinds and scores of all segments. `ratios` are those of the band.
 fn detected(mode: Mode, ratios: &[f32]) -> DetectedKinds
     requires { length ratios.now ≡ total_carriers mode }
-    ensures { AllDetected mode ratios.now result }
+    ensures { AllDetected (detected_kinds mode ratios.now) (kind_scores mode ratios.now) result }
 {
-    let mut kinds = [0u8; 13];
+    let mut kinds = [SegmentKind::Coherent; 13];
     let mut scores = [0.0f32; 13];
     for seg in 0..13 {
         let score = segment_score(mode, Segment(seg), ratios);
         scores[seg] = score;
         kinds[seg] = kind_of(score);
     }
-    DetectedKinds {
-        code: 0,
-        kinds,
-        scores,
-    }
-}
-
-// The answer of a refusal.
-fn refused(code: u8) -> DetectedKinds
-    ensures { NoKinds code result }
-{
-    DetectedKinds {
-        code,
-        kinds: [0; 13],
-        scores: [0.0; 13],
-    }
+    DetectedKinds { kinds, scores }
 }
 
 // The kinds of spectra of k_total carriers each, by their ratios, which are written to `ratios` and
 // stay there.
 //
 // Refused by 1 for a bad mode, 5 unless whole spectra, at most 1,024, 6 if none, 7 unless k_total
-// ratios; kinds and scores are then zeros.
-pub fn detect_kinds(mode: u8, spectra: &[f32], ratios: &mut [f32]) -> DetectedKinds
+// ratios.
+pub fn detect_kinds(mode: u8, spectra: &[f32], ratios: &mut [f32]) -> Result<DetectedKinds, Refusal>
     ensures { KindsDetected (mode_from mode) spectra.now ratios.old result ratios.new }
 {
-    let ModeNumber::Known(m) = Mode::from_number(mode) else {
-        return refused(1);
-    };
-    let code = ratio::continual_metric(spectra, m.total_carriers(), ratios);
-    if code != 0 {
-        return refused(code);
-    }
-    detected(m, ratios)
+    let m = Mode::try_from(mode)?;
+    ratio::continual_metric(spectra, m.total_carriers(), ratios)?;
+    Ok(detected(m, ratios))
 }

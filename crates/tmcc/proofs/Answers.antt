@@ -9,12 +9,11 @@ use borrow.Author.Tests.{eq-eqb, ne_eqb, le-leb, lt-leb}
 use lib.ListN.{length}
 use lib.Ieee.{Float}
 use Rattle.params.specs.declared.Mode.{Mode}
-use Rattle.params.specs.Params.{total_carriers, code_of}
+use Rattle.params.specs.Params.{total_carriers, code_of, kind_codes}
 use Rattle.params.specs.declared.Refusal.TheVariants.{BadPhase, NotWhole}
 use Rattle.params.specs.declared.SegmentKind.{SegmentKind}
 use Rattle.params.specs.declared.SegmentKind.TheVariants.{Coherent, Differential}
 use Rattle.frame.specs.declared.FrameLayout.{FrameLayout}
-use Rattle.frame.specs.Roles.{kind_codes}
 use Rattle.frame.specs.Inner.{Accepted, RefusedLayout}
 use Rattle.frame.specs.Answers.{by_refusal}
 use Rattle.tmcc.specs.Inner.{filter_number}

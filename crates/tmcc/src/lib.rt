@@ -3,9 +3,8 @@
 #![tactic(auto)]
 
 ghost use Rattle.std.specs.Prelude.{◌≡◌, ◌*◌, length};
-ghost use Rattle.params.specs.Params.{mode_from, total_carriers};
+ghost use Rattle.params.specs.Params.{mode_from, total_carriers, kind_codes};
 ghost use Rattle.tmcc.specs.Tmcc.{passes, soft_value, SoftTold};
-ghost use Rattle.frame.specs.Roles.{kind_codes};
 ghost use Rattle.tmcc.specs.Inner.{filter_number, FilterTold, Addable, added_to};
 
 use frame::FrameLayout;

@@ -8,12 +8,12 @@ use borrow.Author.Tests.{ne_eqb}
 use lib.ListN.{get_or}
 use Rattle.params.specs.declared.Mode.{Mode}
 use Rattle.params.specs.declared.SegmentKind.{SegmentKind}
-use Rattle.params.specs.Params.{total_carriers, kind_from}
+use Rattle.params.specs.Params.{total_carriers, kind_from, kind_codes}
 use Rattle.params.specs.Laws.{sized}
 use Rattle.ofdm.specs.Band.{first_carrier, segment_at, band_place, segment_place}
 use Rattle.ofdm.specs.Laws.{in_band}
 use Rattle.frame.specs.declared.CarrierRole.{CarrierRole}
-use Rattle.frame.specs.Roles.{ofdm_segment, place_role, role_at, wide, kind_codes}
+use Rattle.frame.specs.Roles.{ofdm_segment, place_role, role_at, wide}
 use Rattle.frame.specs.OneRole.{segment_in_lem}
 use Rattle.carrier_role.proofs.band_role.Goals as goal
 

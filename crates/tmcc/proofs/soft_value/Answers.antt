@@ -1,8 +1,8 @@
 -- `tmcc::soft_value` meets its contract: the terms of the segments so far are added up.
 -- Assumes nothing.
+use Rattle.params.specs.Params.{kind_codes}
 use mathlib.Core.Path.{◌≡◌}
 use native.Mathlib.Omega.{arith}
-use Rattle.frame.specs.Roles.{kind_codes}
 use Rattle.tmcc.specs.Inner.{filter_number}
 use Rattle.tmcc.proofs.Segments.{addable, begin, skip, further, done}
 use Rattle.tmcc.proofs.soft_value.Goals as goal

@@ -1,6 +1,6 @@
 -- `tmcc::soft_value` meets its contract: the terms of the segments so far are added up.
 -- Assumes nothing.
-use Rattle.frame.specs.Roles.{kind_codes}
+use Rattle.params.specs.Params.{kind_codes}
 use Rattle.tmcc.specs.Inner.{filter_number}
 use Rattle.tmcc.proofs.Segments.{Summed}
 use Rattle.tmcc.proofs.soft_value.Given as goal
