@@ -7,8 +7,7 @@ use Rattle.std.proofs.lemmas.List.Folds.{list_all_more}
 use Rattle.std.specs.List.{list_all}
 use Rattle.params.specs.declared.SegmentKind.{SegmentKind}
 use Rattle.params.specs.declared.SegmentKind.TheVariants.{Coherent, Differential}
-use Rattle.params.specs.Params.{kind_code}
-use Rattle.frame.specs.Roles.{kind_codes}
+use Rattle.params.specs.Params.{kind_code, kind_codes}
 use Rattle.question.specs.Question.{is_kind_letter}
 
 -- the letter of a kind

@@ -5,8 +5,7 @@ use Rattle.lists.specs.Tests.{all_in}
 use Rattle.params.specs.declared.Refusal.{Refusal}
 use Rattle.params.specs.declared.Refusal.TheVariants.{BadForm}
 use Rattle.params.specs.declared.SegmentKind.{SegmentKind}
-use Rattle.params.specs.Params.{kind_code}
-use Rattle.frame.specs.Roles.{kind_codes}
+use Rattle.params.specs.Params.{kind_code, kind_codes}
 use Rattle.question.specs.declared.Question.{Question}
 use Rattle.question.specs.Question.{is_digit, is_kind_letter, mode_asked, phase_asked, kinds_asked}
 

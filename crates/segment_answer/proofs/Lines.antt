@@ -20,7 +20,6 @@ use Rattle.ofdm.specs.Band.{segment_at}
 use Rattle.ofdm.specs.Laws.{segment_ends}
 use Rattle.role_counts.specs.declared.KindCounts.{KindCounts}
 use Rattle.role_counts.specs.Counts.{kind_counts, Few, few}
-use Rattle.frame.specs.Roles.{kind_codes}
 use Rattle.frame.specs.Answers.{kind_again}
 use Rattle.question.specs.declared.Question.{Question}
 use Rattle.question.specs.Question.{line_code}

@@ -1,7 +1,7 @@
 -- The line of a segment in the pieces in which it is stored.
 -- Definitions only.
 use Rattle.std.specs.Prelude.{ℕ, List, [], ◌∷◌, ◌++◌}
-use Rattle.frame.specs.Roles.{kind_codes}
+use Rattle.params.specs.Params.{kind_codes}
 use Rattle.role_counts.specs.declared.KindCounts.{KindCounts}
 use Rattle.text.specs.Decimal.{decimal, field}
 use Rattle.question.specs.declared.Question.{Question}
