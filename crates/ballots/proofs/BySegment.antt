@@ -17,12 +17,12 @@ use Rattle.lists.specs.Select.{length_up_to}
 use Rattle.params.specs.declared.Mode.{Mode}
 use Rattle.params.specs.declared.SegmentKind.{SegmentKind}
 use Rattle.params.specs.declared.SegmentKind.TheVariants.{Coherent, Differential}
-use Rattle.params.specs.Params.{carriers_per_segment, kind_from}
+use Rattle.params.specs.Params.{carriers_per_segment, kind_from, kind_codes}
 use Rattle.params.specs.Laws.{sized}
 use Rattle.tables.specs.Places.{is_sp}
 use Rattle.ofdm.specs.Band.{order, place_of}
 use Rattle.ofdm.specs.Laws.{place_below, segment_of_place, segment_below}
-use Rattle.frame.specs.Roles.{role_byte, place_role, segment_roles, wide_segment, kind_codes}
+use Rattle.frame.specs.Roles.{role_byte, place_role, segment_roles, wide_segment}
 use Rattle.frame.specs.BySegment.{by_segment}
 use Rattle.ballots.specs.Ballots.{pilots}
 use Rattle.ballots.specs.Inner.{twelfths, some_pilots}

@@ -3,9 +3,9 @@
 // right phase alone.
 #![tactic(auto)]
 
+ghost use Rattle.params.specs.Params.{kind_codes};
 ghost use Rattle.std.specs.Prelude.{◌≡◌, ◌*◌, ◌≤◌, ◌<◌, length};
 ghost use Rattle.complex.specs.Complex.{of32};
-ghost use Rattle.frame.specs.Roles.{kind_codes};
 ghost use Rattle.spectra.specs.Spectra.{pair_at};
 ghost use Rattle.ballots.specs.Ballots.{ballot_of};
 ghost use Rattle.ballots.specs.Inner.{Parted, Sized, PilotAt, Joined, Walkable, Walks, Spectrum, coherence, some_pilots};
@@ -70,7 +70,7 @@ impl Run {
             None => Run { last, ..self },
             Some(before) => Run {
                 last,
-                sum: self.sum.add(pilot.value.mul(before.value.conj())),
+                sum: self.sum + pilot.value * before.value.conj(),
                 energy: self.energy + before.norm * norm,
             },
         }

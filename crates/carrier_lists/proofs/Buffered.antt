@@ -12,13 +12,13 @@ use lib.Seq.{take_at}
 use Rattle.lists.specs.Lists.{range, joined, chosen}
 use Rattle.lists.specs.Fill.{joined_map, joined_same, part_of}
 use Rattle.params.specs.declared.Mode.{Mode}
-use Rattle.params.specs.Params.{carriers_per_segment, data_carriers_per_segment, total_carriers}
+use Rattle.params.specs.Params.{carriers_per_segment, data_carriers_per_segment, total_carriers, kind_codes}
 use Rattle.params.specs.Laws.{sized}
 use Rattle.ofdm.specs.Band.{order, place_of, first_carrier, ZeroBand}
 use Rattle.ofdm.specs.Laws.{place_below, segment_of_place}
 use Rattle.frame.specs.declared.CarrierRole.TheVariants.{EdgeCp}
 use Rattle.params.specs.declared.Refusal.{Refusal}
-use Rattle.frame.specs.Roles.{role_byte, is_data, segment_roles, band_roles, wide_segment, wide, kind_codes}
+use Rattle.frame.specs.Roles.{role_byte, is_data, segment_roles, band_roles, wide_segment, wide}
 use Rattle.carrier_lists.specs.CarrierLists.{segment_data, data_list, continual_list}
 use Rattle.frame.specs.OneRole.{segment_length, band_length, wide_size}
 use Rattle.carrier_lists.specs.DataList.{data_length}

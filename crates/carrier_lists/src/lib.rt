@@ -5,8 +5,8 @@
 
 ghost use Rattle.std.specs.Prelude.{◌≡◌, ◌<◌, ◌≤◌, ◌*◌, length, count_by};
 ghost use Rattle.lists.specs.Lists.{range, joined, chosen};
-ghost use Rattle.params.specs.Params.{mode_from, data_carriers_per_segment, code_of};
-ghost use Rattle.frame.specs.Roles.{band_roles, wide, between, kind_codes};
+ghost use Rattle.params.specs.Params.{mode_from, data_carriers_per_segment, code_of, kind_codes};
+ghost use Rattle.frame.specs.Roles.{band_roles, wide, between};
 ghost use Rattle.carrier_lists.specs.CarrierLists.{data_list, continual_in, stored_first};
 ghost use Rattle.carrier_lists.specs.Operations.{DataList, ContinualListed};
 ghost use Rattle.carrier_lists.specs.Inner.{Room, Collected, DataRoom, data_in, ContinualRoom, Continual, BandBuffer};

@@ -6,17 +6,17 @@
 ghost use Rattle.std.specs.Prelude.{◌≡◌, ◌<◌};
 ghost use Rattle.lists.specs.Tests.{memb};
 ghost use Rattle.lists.specs.Select.{Ascending};
-ghost use Rattle.params.specs.Params.{mode_from, total_carriers};
+ghost use Rattle.params.specs.Params.{mode_from, total_carriers, kind_codes};
 ghost use Rattle.frame.specs.Roles.{ofdm_segment, place_role, role_at, wide};
 ghost use Rattle.carrier_role.specs.Inner.{table_role};
 ghost use Rattle.carrier_role.specs.CarrierRole.{RoleTold};
 
 use frame::{AcKind, CarrierRole, FrameLayout};
 use ofdm::{BandCarrier, BandPlace, Segment, SegmentPlace};
-use params::{Mode, SegmentKind};
+use params::{Mode, Refusal, SegmentKind};
 
 // Whether a row of a table has a place. A row ascends, so the first entry that is not below the place
-// decides.
+// decides, where `contains` would read the row to its end.
 fn has_place(row: &[u16], p: SegmentPlace) -> bool
     requires { Ascending row.now }
     ensures { result ≡ memb p.0 row.now }
@@ -83,7 +83,7 @@ fn place_role(
 // says.
 fn band_role(layout: FrameLayout, phase: u8, k: BandCarrier) -> CarrierRole
     requires { k.0 < total_carriers layout.mode }
-    ensures { result ≡ role_at layout.mode phase (wide layout.kinds) k.0 }
+    ensures { result ≡ role_at layout.mode phase (wide (kind_codes layout.kinds)) k.0 }
 {
     let mode = layout.mode;
     let edge = ofdm::first_carrier(mode, BandPlace(13));
@@ -97,34 +97,24 @@ fn band_role(layout: FrameLayout, phase: u8, k: BandCarrier) -> CarrierRole
     place_role(mode, seg, layout.kind(seg), phase, p)
 }
 
-// What the lookup answers.
-#[derive(Clone, Copy)]
-pub enum RoleAnswer {
-    Role(CarrierRole),
-    Refused(u8),
-}
-
 // The role of carrier k in a mode, kinds and phase.
 //
 // Refused as the role map is, with k in the place of the output: by 1 for a bad mode, 2 unless there
 // are thirteen kinds of 0 or 1, 3 for a bad phase, 4 for a carrier that the band does not have.
-pub fn carrier_role(mode: u8, phase: u8, kinds: &[u8], k: BandCarrier) -> RoleAnswer
+pub fn carrier_role(
+    mode: u8,
+    phase: u8,
+    kinds: &[u8],
+    k: BandCarrier,
+) -> Result<CarrierRole, Refusal>
     ensures { RoleTold (mode_from mode) phase kinds.now k.0 result }
 {
-    let new = FrameLayout::new(mode, kinds);
-    let code = new.code;
-    if code != 0 {
-        return RoleAnswer::Refused(code);
-    }
-    let layout = new.layout;
-    let m = layout.mode;
-    let k_total = m.total_carriers();
-    let carrier = k.0;
+    let layout = FrameLayout::new(mode, kinds)?;
     if 3 < phase {
-        return RoleAnswer::Refused(3);
+        return Err(Refusal::BadPhase);
     }
-    if k_total <= carrier {
-        return RoleAnswer::Refused(4);
+    if layout.mode.total_carriers() <= k.0 {
+        return Err(Refusal::Outside);
     }
-    RoleAnswer::Role(band_role(layout, phase, k))
+    Ok(band_role(layout, phase, k))
 }

@@ -1,101 +1,67 @@
--- What `window_at` keeps: the sums so far, with what the starts ahead will add, are the sums over all starts.
+-- What `window_at` keeps: the sums over the starts passed; and every start that it counts ends within the samples.
 -- Assumes nothing.
-use Rattle.std.proofs.Common.{◌≡◌, ℕ, suc, ◌+◌, ◌-◌, ◌*◌, ◌/◌, ◌<◌, ◌≤◌, Bool, false, cond, leb, List, [], ◌∷◌, length, get_or, drop, sym, refl, ap}
-use Rattle.std.proofs.Common.{◌∙◌, subst, suc-le-suc, le_trans, zero-lt-suc, add-mul, mul-le-mul_left, add-one, arith, length-drop, drop_of_length-le}
-use Rattle.std.proofs.Common.{get_or-drop, drop-cons, le-leb}
-use native.Mathlib.Nat.{mul-div-le}
-use borrow.Author.Tests.{lt-leb}
+use Rattle.std.proofs.Common.{◌≡◌, refl, ℕ, zero, suc, ◌+◌, ◌-◌, ◌*◌, ◌/◌, ◌<◌, ◌≤◌, Bool, leb, List, [], ◌∷◌, ◌++◌, map}
+use Rattle.std.proofs.Common.{add-mul, mul-le-mul_right, add-one, arith, le-leb, le_trans}
+use mathlib.Core.List.{map-append}
+use Rattle.std.proofs.Math.Nat.{div-mul-le_self}
 use lib.Ieee.{Float, binary64, add}
 use Rattle.ieee.specs.Constants.{plus_zero}
-use Rattle.ieee.specs.Sums.{total}
+use Rattle.ieee.specs.Sums.{total, total_append}
 use Rattle.lists.specs.Lists.{up_to, select}
-use Rattle.lists.specs.Select.{length_up_to, get_or_up_to}
+use Rattle.lists.specs.Select.{select_append}
 use Rattle.correlation.specs.declared.Window.{Window}
 use Rattle.correlation.specs.Correlation.{starts}
 use Rattle.correlation.specs.Inner.{reals, imaginaries, energies, entry, gap, gaps, Windowed}
 
--- ---- the starts ahead
-select_none : (t : ℕ → Bool) (xs : List ℕ) → ((i : ℕ) → i < length xs → t (get_or xs i 0) ≡ false) → select t xs ≡ []
-select_none t [] h = refl
-select_none t (x ∷ xs) h = rw (h 0 (zero-lt-suc (length xs))) (select_none t xs (λ i l. h (suc i) (suc-le-suc l)))
+-- a symbol counted leaves room for the guard behind it
+pub symbol_fits : (p ng len s : ℕ) → s < (len - ng) / p → s * p + p ≤ len - ng
+symbol_fits p ng len s h =
+    let next : s + 1 ≤ (len - ng) / p = omega arith in
+    let l : (s + 1) * p ≤ len - ng = le_trans (mul-le-mul_right p next) (div-mul-le_self (len - ng) p) in
+    omega (arith, add-mul s 1 p)
 
-module _ (p ng len d : ℕ) where
+-- so do all that are counted, where the first lies within the first symbol
+module _ (p ng len d : ℕ) (offset : d < p) (guard : ng ≤ len) where
   abbrev inside : ℕ → Bool
   inside a = leb (a + ng) len
 
   abbrev start : ℕ → ℕ
   start s = d + s * p
 
-  abbrev count : ℕ
-  count = (len - ng) / p
+  passed : (n : ℕ) → n ≤ (len - ng) / p → select inside (up_to start n) ≡ up_to start n
+  passed zero h = refl
+  passed (suc n) h =
+      let fits : n * p + p ≤ len - ng = symbol_fits p ng len n h in
+      let ends : start n + ng ≤ len = omega arith in
+      rw (select_append inside (up_to start n) (start n ∷ []), passed n (omega arith), le-leb (start n + ng) len ends)
 
-  -- those from the one numbered s on
-  abbrev pub from : ℕ → List ℕ
-  from s = select inside (drop s (up_to start count))
-
-  from_next : (s : ℕ) → s < count → from s ≡ cond (inside (start s)) (start s ∷ from (s + 1)) (from (s + 1))
-  from_next s h =
-      let l : s < length (up_to start count) = rw (length_up_to start count) h in
-      rw (drop-cons (up_to start count) s 0 l, get_or_up_to start count s 0 h, add-one)
-
-  -- a start whose guard ends within the len samples
-  pub from_cons : (a s : ℕ) → a ≡ start s → s < count → a + ng ≤ len → from s ≡ a ∷ from (s + 1)
-  from_cons a s e h l = from_next s h ∙ rw (sym e, le-leb (a + ng) len l)
-
-  later : (s i : ℕ) → start s ≤ start (s + i)
-  later s i = omega (arith, add-mul s i p)
-
-  -- behind a start whose guard does not, none does
-  pub from_stop : (a s : ℕ) → a ≡ start s → len < a + ng → from s ≡ []
-  from_stop a s e l =
-      select_none inside (drop s (up_to start count)) (λ i h.
-      let n : s + i < count = omega (arith, length-drop s (up_to start count), length_up_to start count) in
-      let past : len < start (s + i) + ng = omega (arith, later s i) in
-      rw (get_or-drop s (up_to start count) i 0, get_or_up_to start count (s + i) 0 n) (lt-leb (start (s + i) + ng) len past))
-
-  pub from_end : (s : ℕ) → count ≤ s → from s ≡ []
-  from_end s h =
-      let l : length (up_to start count) ≤ s = rw (length_up_to start count) h in
-      ap (select inside) (drop_of_length-le (up_to start count) l)
-
-  pub from_all : from 0 ≡ starts p ng len d
+  pub windowed_all : (sums : List Float) (w : Window) (n : ℕ) → n ≡ (len - ng) / p → Windowed sums ng (up_to (λ s. d + s * p) n) w
+      → Windowed sums ng (starts p ng len d) w
   unfolding starts
-  from_all = refl
+  windowed_all sums w n e h = rw (passed ((len - ng) / p) (omega arith)) (rw e at h)
 
-  pub next_start : (a s : ℕ) → a ≡ start s → a + p ≡ start (s + 1)
-  next_start a s e = omega (arith, add-mul s 1 p)
-
-  -- where there is a start, a symbol fits behind the guard
-  pub symbol_fits : (s : ℕ) → s < count → p ≤ len - ng
-  symbol_fits s h = omega (arith, le_trans (mul-le-mul_left p (some count h)) (mul-div-le (len - ng) p))
-    where
-      some : (n : ℕ) → s < n → 1 ≤ n
-      some n l = omega arith
-
--- ---- sums a, b and c, with the starts rest ahead, come to the sums over all
-pub record Ahead (sums : List Float) (ng : ℕ) (all : List ℕ) (a b c : Float) (rest : List ℕ) : Type 0 where
-  pub re : gaps reals sums ng a rest ≡ gaps reals sums ng (plus_zero binary64) all
-  pub im : gaps imaginaries sums ng b rest ≡ gaps imaginaries sums ng (plus_zero binary64) all
-  pub energy : gaps energies sums ng c rest ≡ gaps energies sums ng (plus_zero binary64) all
-
--- what the start k adds to s
-abbrev pub plus : (ℕ → ℕ) → List Float → ℕ → Float → ℕ → Float
-plus slot sums ng s k = add binary64 s (gap (entry slot sums) ng k)
-
-pub begin : (sums : List Float) (ng : ℕ) (all rest : List ℕ) → rest ≡ all
-    → Ahead sums ng all (plus_zero binary64) (plus_zero binary64) (plus_zero binary64) rest
-begin sums ng all rest e = rw e (record { re = refl; im = refl; energy = refl })
-
-pub further : (sums : List Float) (ng : ℕ) (all : List ℕ) (a b c : Float) (rest less : List ℕ) (k : ℕ) → rest ≡ k ∷ less → Ahead sums ng all a b c rest
-    → Ahead sums ng all (plus reals sums ng a k) (plus imaginaries sums ng b k) (plus energies sums ng c k) less
+-- one start more
+gaps_more : (slot : ℕ → ℕ) (sums : List Float) (ng : ℕ) (from : List ℕ) (a : ℕ) (x : Float) → x ≡ gaps slot sums ng (plus_zero binary64) from
+    → add binary64 x (gap (entry slot sums) ng a) ≡ gaps slot sums ng (plus_zero binary64) (from ++ (a ∷ []))
 unfolding total
-further sums ng all a b c rest less k e h =
-    let g : Ahead sums ng all a b c (k ∷ less) = subst (λ (l : List ℕ). Ahead sums ng all a b c l) e h in
-    record { re = g.re; im = g.im; energy = g.energy }
+gaps_more slot sums ng from a x e =
+    let g : ℕ → Float = gap (entry slot sums) ng in
+    rw (e, map-append g from (a ∷ []), total_append binary64 (plus_zero binary64) (map g from) (g a ∷ []))
 
-pub finish : (sums : List Float) (ng : ℕ) (all rest : List ℕ) (w : Window) → rest ≡ [] → Ahead sums ng all w.re w.im w.energy rest
-    → Windowed sums ng all w
+pub windowed_more : (sums : List Float) (ng : ℕ) (f : ℕ → ℕ) (s : ℕ) (w : Window) → Windowed sums ng (up_to f s) w
+    → Windowed sums ng (up_to f (s + 1)) (record {
+      re = add binary64 w.re (gap (entry reals sums) ng (f s));
+      im = add binary64 w.im (gap (entry imaginaries sums) ng (f s));
+      energy = add binary64 w.energy (gap (entry energies sums) ng (f s));
+    })
+windowed_more sums ng f s w h =
+    rw (add-one s)
+    (record {
+      re = gaps_more reals sums ng (up_to f s) (f s) w.re h.re;
+      im = gaps_more imaginaries sums ng (up_to f s) (f s) w.im h.im;
+      energy = gaps_more energies sums ng (up_to f s) (f s) w.energy h.energy;
+    })
+
+pub windowed_none : (sums : List Float) (ng : ℕ) → let z = plus_zero binary64 in Windowed sums ng [] (record { re = z; im = z; energy = z })
 unfolding total
-finish sums ng all rest w e h =
-    let g : Ahead sums ng all w.re w.im w.energy [] = subst (λ (l : List ℕ). Ahead sums ng all w.re w.im w.energy l) e h in
-    record { re = g.re; im = g.im; energy = g.energy }
+windowed_none sums ng = record { re = refl; im = refl; energy = refl }

@@ -1,5 +1,7 @@
 // The correlation of samples n apart (acquire.rs of isdb-rs, `detect_mode`): its running sums, and from them
 // the sums over the guards of an offset. Samples are lent flat, real and imaginary part in turn.
+#![tactic(auto)]
+
 ghost use Rattle.correlation.specs.Correlation.{starts};
 ghost use Rattle.correlation.specs.Inner.{Holds, Writable, Windowed, Inside};
 
@@ -26,24 +28,22 @@ pub fn write_prefixes(samples: &[f32], n: usize, scratch: &mut [f64])
     scratch[0] = re;
     scratch[1] = im;
     scratch[2] = energy;
-    let mut i: usize = 0;
-    while i < len {
+    for i in 0..len {
         let a = spectra::pair_at(samples, i);
         let b = spectra::pair_at(samples, i + n);
-        let p = a.mul(b.conj()).widen();
-        re = re + p.re;
-        im = im + p.im;
-        let both = std::num::f32_to_f64_with_nan(a.norm_sqr() + b.norm_sqr());
-        energy = energy + both * HALF;
-        i += 1;
-        let at = 3 * i;
+        let p = (a * b.conj()).widen();
+        re += p.re;
+        im += p.im;
+        energy += f64::from(a.norm_sqr() + b.norm_sqr()) * HALF;
+        let at = 3 * (i + 1);
         scratch[at] = re;
         scratch[at + 1] = im;
         scratch[at + 2] = energy;
     }
 }
 
-// The sums over the guards of ng samples that start at d and every p further on, and end within len.
+// The sums over the guards of ng samples that start at d and every p further on, and end within len:
+// all that are counted, since d lies within the first symbol.
 pub fn window_at(sums: &[f64], ng: usize, p: usize, len: usize, d: usize) -> Window
     requires { Inside sums.now ng p len d }
     ensures { Windowed sums.now ng (starts p ng len d) result }
@@ -52,20 +52,14 @@ pub fn window_at(sums: &[f64], ng: usize, p: usize, len: usize, d: usize) -> Win
     let mut re = 0.0f64;
     let mut im = 0.0f64;
     let mut energy = 0.0f64;
-    let mut a = d;
-    let mut s: usize = 0;
-    while s < count {
+    for s in 0..count {
+        let a = d + s * p;
         let b = a + ng;
-        if b > len {
-            break;
-        }
         let low = 3 * a;
         let high = 3 * b;
-        re = re + (sums[high] - sums[low]);
-        im = im + (sums[high + 1] - sums[low + 1]);
-        energy = energy + (sums[high + 2] - sums[low + 2]);
-        a += p;
-        s += 1;
+        re += sums[high] - sums[low];
+        im += sums[high + 1] - sums[low + 1];
+        energy += sums[high + 2] - sums[low + 2];
     }
     Window { re, im, energy }
 }

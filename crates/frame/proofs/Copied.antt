@@ -14,9 +14,8 @@ use lib.Seq.{take-suc, take-suc-set, take_all}
 use Rattle.lists.specs.Tests.{all_in, all_in_stop, all_in_pass}
 use Rattle.params.specs.declared.SegmentKind.{SegmentKind}
 use Rattle.params.specs.declared.SegmentKind.TheVariants.{Coherent, Differential}
-use Rattle.params.specs.Params.{kind_code}
+use Rattle.params.specs.Params.{kind_code, kind_codes}
 use Rattle.frame.specs.Operations.{are_kinds}
-use Rattle.frame.specs.Roles.{kind_codes}
 
 kind_small : (kind : SegmentKind) → kind_code kind ≤ 1
 kind_small Coherent = omega arith

@@ -1,20 +1,20 @@
 -- What the tests on the way to a return make of an operation's definition: for the role map here, and the lists above.
 -- Assumes nothing.
-use Rattle.std.specs.Prelude.{ℕ, ◌≤◌, ◌<◌, List, ◌≡◌, length, get_or, Option, Some, None}
+use Rattle.std.specs.Prelude.{ℕ, ◌≤◌, ◌<◌, List, ◌≡◌, length, get_or, ltb, Option, Some, None}
 use Rattle.std.proofs.Math.Bool.{false}
 use Rattle.std.proofs.Math.Path.{refl}
-use Rattle.std.proofs.Common.{sym, ap, ◌∙◌, arith}
+use Rattle.std.proofs.Common.{sym, ap, ◌∙◌, arith, lit≤}
 use Rattle.std.proofs.Math.ListN.{get_or-map}
 use borrow.Author.Tests.{eq-eqb, ne_eqb, lt-ltb, le-ltb}
+use Rattle.lists.specs.Refusals.{unless_most}
 use Rattle.params.specs.declared.Mode.{Mode}
 use Rattle.params.specs.declared.Refusal.{Refusal}
 use Rattle.params.specs.declared.Refusal.TheVariants.{BadMode, BadKinds}
 use Rattle.params.specs.declared.SegmentKind.{SegmentKind}
 use Rattle.params.specs.declared.SegmentKind.TheVariants.{Coherent, Differential}
-use Rattle.params.specs.Params.{kind_code, kind_from, refusal_number}
-use Rattle.frame.specs.Roles.{kind_codes}
+use Rattle.params.specs.Params.{kind_code, kind_from, refusal_number, kind_codes}
 use Rattle.frame.specs.declared.FrameLayout.{FrameLayout}
-use Rattle.frame.specs.Operations.{are_kinds, SymbolAnswer, symbol_code, symbol_leaves}
+use Rattle.frame.specs.Operations.{are_kinds, symbol_tests, SymbolAnswer, symbol_code, symbol_leaves}
 use Rattle.frame.specs.Inner.{Accepted, RefusedLayout}
 
 -- a kind comes back from its code
@@ -31,6 +31,12 @@ pub by_refusal : (kinds : List ℕ) (P : Option Mode → Refusal → Type 0) →
     → (number : Option Mode) (refusal : Refusal) → RefusedLayout number kinds refusal → P number refusal
 by_refusal kinds P bad_mode bad_kinds None refusal e = rw e bad_mode
 by_refusal kinds P bad_mode bad_kinds (Some m) refusal e = rw e.1 (bad_kinds m e.0)
+
+-- the number of a chain of an operation's tests
+pub tests_most : (last : Mode → ℕ) → ((m : Mode) → last m ≤ 11) → (mode : Option Mode) (phase : ℕ) (kinds : List ℕ) → symbol_tests last mode phase kinds ≤ 11
+tests_most last l None phase kinds = lit≤ tt
+tests_most last l (Some m) phase kinds =
+    unless_most (are_kinds kinds) 2 _ 11 (lit≤ tt) (unless_most (ltb phase 4) 3 (last m) 11 (lit≤ tt) (l m))
 
 module _ (kinds : List ℕ) (size : Mode → ℕ) (list : Mode → List ℕ) (phase : ℕ) (out : List ℕ) where
   pub refused_layout : (number : Option Mode) (refusal : Refusal) → RefusedLayout number kinds refusal

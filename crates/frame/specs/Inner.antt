@@ -6,10 +6,10 @@ use Rattle.params.specs.declared.Refusal.{Refusal}
 use Rattle.params.specs.declared.Refusal.TheVariants.{BadMode, BadKinds}
 use Rattle.params.specs.declared.Mode.{Mode}
 use Rattle.params.specs.declared.SegmentKind.{SegmentKind}
-use Rattle.params.specs.Params.{carriers_per_segment}
+use Rattle.params.specs.Params.{carriers_per_segment, kind_codes}
 use Rattle.tables.specs.Places.{is_sp, is_cp}
 use Rattle.frame.specs.declared.FrameLayout.{FrameLayout}
-use Rattle.frame.specs.Roles.{role_byte, first_claim, kind_codes}
+use Rattle.frame.specs.Roles.{role_byte, first_claim}
 use Rattle.frame.specs.Operations.{are_kinds}
 
 -- the role byte of a place as far as pilots decide it

@@ -6,7 +6,7 @@ use Rattle.lists.specs.Tests.{memb}
 use Rattle.params.specs.declared.Mode.{Mode}
 use Rattle.params.specs.declared.SegmentKind.{SegmentKind}
 use Rattle.params.specs.declared.SegmentKind.TheVariants.{Coherent}
-use Rattle.params.specs.Params.{carriers_per_segment, kind_code, kind_from}
+use Rattle.params.specs.Params.{carriers_per_segment, kind_from}
 use Rattle.tables.specs.Places.{tmcc_of, ac1_of, ac2_of, is_sp, is_cp}
 use Rattle.ofdm.specs.Band.{order, first_carrier, band_place, segment_place}
 use Rattle.frame.specs.declared.AcKind.TheVariants.{Ac1, Ac2}
@@ -61,10 +61,6 @@ edge_of mode segments = first_carrier mode (length segments)
 abbrev pub role_at : Mode → ℕ → List OfdmSegment → ℕ → CarrierRole
 role_at mode phase segments k =
     cond (eqb k (edge_of mode segments)) EdgeCp (place_role mode (segment_in segments (band_place mode k)) phase (segment_place mode k))
-
--- the codes of a layout's kinds
-unfoldable pub kind_codes : List SegmentKind → List ℕ
-kind_codes = map kind_code
 
 -- segment seg of the wide band, whose kinds are given in segment-number order
 abbrev pub wide_segment : List ℕ → ℕ → OfdmSegment

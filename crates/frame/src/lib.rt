@@ -9,10 +9,10 @@
 
 ghost use Rattle.std.specs.Prelude.{◌≡◌, ◌<◌, length, get_or};
 ghost use Rattle.lists.specs.Lists.{up_to};
-ghost use Rattle.params.specs.Params.{mode_from, total_carriers, kind_from, code_of};
+ghost use Rattle.params.specs.Params.{mode_from, total_carriers, kind_from, code_of, kind_codes};
 ghost use Rattle.params.specs.declared.SegmentKind.TheVariants.{Coherent};
 ghost use Rattle.tables.specs.Places.{is_sp};
-ghost use Rattle.frame.specs.Roles.{role_byte, ofdm_segment, segment_roles, band_roles, kind_codes, wide, between};
+ghost use Rattle.frame.specs.Roles.{role_byte, ofdm_segment, segment_roles, band_roles, wide, between};
 ghost use Rattle.frame.specs.Inner.{pilot_byte, marked, Markable, InSegment, KindsTold, LayoutTold};
 ghost use Rattle.frame.specs.Operations.{RoleMap};
 

@@ -3,7 +3,7 @@
 -- correlation, which are multiplied by the gain twice (`louder`).
 -- Assumes nothing.
 use Prim.Native.Nat.{ℕ, suc, ◌+◌, ◌-◌, ◌*◌, ◌≤◌, ◌<◌}
-use Rattle.std.specs.Prelude.{Bool, false, List, [], ◌∷◌, ◌≡◌, refl, leb, ltb, length, Float}
+use Rattle.std.specs.Prelude.{Bool, false, List, [], ◌∷◌, ◌≡◌, refl, leb, ltb, length, Float, Option, Some, None, Ok}
 use Rattle.std.proofs.Math.Bool.{true, cond}
 use Rattle.std.proofs.Common.{sym, subst, ◌∙◌, arith, lit<}
 use Rattle.std.proofs.Math.Path.{ap}
@@ -31,21 +31,19 @@ use Rattle.guess.specs.Louder.{twice_gained, louder_guess, louder}
 use Rattle.guess.specs.Facts.{all_true, cond_keeps, search_keeps}
 use Rattle.guess.specs.Windows.{correlation_same, energy_same, correlation_louder, energy_louder, correlation_fits}
 use Rattle.guess.specs.declared.ModeGuess.{ModeGuess}
-use Rattle.guess.specs.declared.GuardSearch.{GuardSearch}
-use Rattle.guess.specs.declared.GuardSearch.TheVariants.{Found, Nothing, Refused}
 
 -- ---- a search goes the same way where every step of it does
-louder_cond : (k : ℕ) (b : Bool) (x y : GuardSearch) → cond b (louder k x) (louder k y) ≡ louder k (cond b x y)
+louder_cond : (k : ℕ) (b : Bool) (x y : Option ModeGuess) → cond b (louder k x) (louder k y) ≡ louder k (cond b x y)
 louder_cond k true x y = refl
 louder_cond k false x y = refl
 
 -- p says which entries are met
-louder_scan : (k : ℕ) (p : ℕ → Bool) (f g : GuardSearch → ℕ → GuardSearch) (xs : List ℕ) (best : GuardSearch) → all_in p xs ≡ true
-    → ((best : GuardSearch) (x : ℕ) → p x ≡ true → f (louder k best) x ≡ louder k (g best x)) → scan f (louder k best) xs ≡ louder k (scan g best xs)
+louder_scan : (k : ℕ) (p : ℕ → Bool) (f g : Option ModeGuess → ℕ → Option ModeGuess) (xs : List ℕ) (best : Option ModeGuess) → all_in p xs ≡ true
+    → ((best : Option ModeGuess) (x : ℕ) → p x ≡ true → f (louder k best) x ≡ louder k (g best x)) → scan f (louder k best) xs ≡ louder k (scan g best xs)
 unfolding scan
 louder_scan k p f g [] best t h = refl
 louder_scan k p f g (x ∷ xs) best t h =
-    ap (λ (b : GuardSearch). scan f b xs) (h best x (both_left (p x) (all_in p xs) t)) ∙ louder_scan k p f g xs (g best x) (both_right (p x) (all_in p xs) t) h
+    ap (λ (b : Option ModeGuess). scan f b xs) (h best x (both_left (p x) (all_in p xs) t)) ∙ louder_scan k p f g xs (g best x) (both_right (p x) (all_in p xs) t) h
 
 -- what ys has at an offset is what xs has there, but for the gain
 record Kept (k : ℕ) (xs ys : List Float) (mode guard d : ℕ) : Type 0 where
@@ -54,23 +52,22 @@ record Kept (k : ℕ) (xs ys : List Float) (mode guard d : ℕ) : Type 0 where
 
 module _ (k : ℕ) (xs ys : List Float) (long : length ys ≡ length xs)
     (kept : (mode guard d : ℕ) → is_mode mode ≡ true → Kept k xs ys mode guard d) where
-  beats_same : (mode guard d : ℕ) → is_mode mode ≡ true → (best : GuardSearch)
+  beats_same : (mode guard d : ℕ) → is_mode mode ≡ true → (best : Option ModeGuess)
       → beats (guess_at ys mode guard d) (louder k best) ≡ beats (guess_at xs mode guard d) best
-  beats_same mode guard d m (Found best) = ap (λ (g : ModeGuess). lt best.metric g.metric) (kept mode guard d m).guess
-  beats_same mode guard d m Nothing = refl
-  beats_same mode guard d m (Refused code) = refl
+  beats_same mode guard d m (Some best) = ap (λ (g : ModeGuess). lt best.metric g.metric) (kept mode guard d m).guess
+  beats_same mode guard d m None = refl
 
-  offered_louder : (mode guard : ℕ) → is_mode mode ≡ true → (best : GuardSearch) (d : ℕ)
+  offered_louder : (mode guard : ℕ) → is_mode mode ≡ true → (best : Option ModeGuess) (d : ℕ)
       → offered ys mode guard (louder k best) d ≡ louder k (offered xs mode guard best d)
   offered_louder mode guard m best d =
       let e = kept mode guard d m in
       let g = guess_at xs mode guard d in
       let b = beats g best in
-      (λ i. cond (e.passed i) (louder k best) (cond (beats_same mode guard d m best i) (Found (e.guess i)) (louder k best)))
-      ∙ ap (λ (z : GuardSearch). cond (le (energy_at xs mode guard d) (plus_zero binary64)) (louder k best) z) (louder_cond k b (Found g) best)
-      ∙ louder_cond k (le (energy_at xs mode guard d) (plus_zero binary64)) best (cond b (Found g) best)
+      (λ i. cond (e.passed i) (louder k best) (cond (beats_same mode guard d m best i) (Some (e.guess i)) (louder k best)))
+      ∙ ap (λ (z : Option ModeGuess). cond (le (energy_at xs mode guard d) (plus_zero binary64)) (louder k best) z) (louder_cond k b (Some g) best)
+      ∙ louder_cond k (le (energy_at xs mode guard d) (plus_zero binary64)) best (cond b (Some g) best)
 
-  guard_louder : (mode : ℕ) → is_mode mode ≡ true → (best : GuardSearch) (guard : ℕ)
+  guard_louder : (mode : ℕ) → is_mode mode ≡ true → (best : Option ModeGuess) (guard : ℕ)
       → tried_guard ys mode (louder k best) guard ≡ louder k (tried_guard xs mode best guard)
   unfolding tried_guard
   guard_louder mode m best guard =
@@ -81,7 +78,7 @@ module _ (k : ℕ) (xs ys : List Float) (long : length ys ≡ length xs)
       (louder k best))
       ∙ louder_cond k (leb need (lags_in (fft_of mode) xs)) (scan (offered xs mode guard) best offsets) best
 
-  mode_louder : (guards : List ℕ) (best : GuardSearch) (mode : ℕ) → is_mode mode ≡ true
+  mode_louder : (guards : List ℕ) (best : Option ModeGuess) (mode : ℕ) → is_mode mode ≡ true
       → tried_mode ys guards (louder k best) mode ≡ louder k (tried_mode xs guards best mode)
   unfolding tried_mode
   mode_louder guards best mode m =
@@ -92,7 +89,7 @@ module _ (k : ℕ) (xs ys : List Float) (long : length ys ≡ length xs)
 
   search_louder : (modes guards : List ℕ) → all_in is_mode modes ≡ true → guessed ys modes guards ≡ louder k (guessed xs modes guards)
   unfolding guessed
-  search_louder modes guards M = louder_scan k is_mode (tried_mode ys guards) (tried_mode xs guards) modes Nothing M (λ b mode m. mode_louder guards b mode m)
+  search_louder modes guards M = louder_scan k is_mode (tried_mode ys guards) (tried_mode xs guards) modes None M (λ b mode m. mode_louder guards b mode m)
 
 -- ---- samples are spectra of one pair
 -- what `of_samples` makes of a change
@@ -226,15 +223,13 @@ module _ {A : Type 0} (f : Pair → A) (same : (j : ℕ) (p q : Pair) → Times 
   abbrev of_parts : ModeGuess → A
   of_parts g = f (pair g.re g.im)
 
-  abbrev PartsKept : ℕ → GuardSearch → Type 0
-  PartsKept k (Found g) = of_parts (louder_guess k g) ≡ of_parts g
-  PartsKept k Nothing = Unit
-  PartsKept k (Refused code) = Unit
+  abbrev PartsKept : ℕ → Option ModeGuess → Type 0
+  PartsKept k (Some g) = of_parts (louder_guess k g) ≡ of_parts g
+  PartsKept k None = Unit
 
-  kept_given : (k : ℕ) (lent : A) (b : GuardSearch) → PartsKept k b → guess_given of_parts (louder k b) lent ≡ guess_given of_parts b lent
-  kept_given k lent (Found g) h = h
-  kept_given k lent Nothing h = refl
-  kept_given k lent (Refused code) h = refl
+  kept_given : (k : ℕ) (lent : A) (b : Option ModeGuess) → PartsKept k b → guess_given of_parts (Ok (louder k b)) lent ≡ guess_given of_parts (Ok b) lent
+  kept_given k lent (Some g) h = h
+  kept_given k lent None h = refl
 
   -- what is found is the guess at an offset, whose parts in ys are those in xs times 2 ^ (2 × k)
   kept_search : (negates turns : Bool) (g : ℕ) → suc g ≤ most → (xs ys : List Float) (modes guards : List ℕ) → all_in is_mode modes ≡ true
@@ -242,7 +237,7 @@ module _ {A : Type 0} (f : Pair → A) (same : (j : ℕ) (p q : Pair) → Times 
   unfolding guess_at
   kept_search negates turns g K xs ys modes guards M N w h = search_keeps (PartsKept (suc g)) is_mode xs step modes guards M tt
     where
-      at : (mode guard d : ℕ) → is_mode mode ≡ true → PartsKept (suc g) (Found (guess_at xs mode guard d))
+      at : (mode guard d : ℕ) → is_mode mode ≡ true → PartsKept (suc g) (Some (guess_at xs mode guard d))
       at mode guard d m =
           let c = gained_correlation negates turns g K xs ys N w h mode guard d m in
           let e = gained_kept negates turns g K xs ys N w h mode guard d m in
@@ -250,16 +245,15 @@ module _ {A : Type 0} (f : Pair → A) (same : (j : ℕ) (p q : Pair) → Times 
           let im = times_of (suc g) (guess_level step_level) _ _ c.im in
           ap of_parts (sym e.guess) ∙ same (2 * suc g) (correlation_at xs mode guard d) (correlation_at ys mode guard d) re im
 
-      step : (mode guard : ℕ) → is_mode mode ≡ true → (b : GuardSearch) (d : ℕ) → PartsKept (suc g) b → PartsKept (suc g) (offered xs mode guard b d)
+      step : (mode guard : ℕ) → is_mode mode ≡ true → (b : Option ModeGuess) (d : ℕ) → PartsKept (suc g) b → PartsKept (suc g) (offered xs mode guard b d)
       step mode guard m b d H =
           let at_d = guess_at xs mode guard d in
           cond_keeps (PartsKept (suc g)) (le (energy_at xs mode guard d) (plus_zero binary64)) b _ H
-          (cond_keeps (PartsKept (suc g)) (beats at_d b) (Found at_d) b (at mode guard d m) H)
+          (cond_keeps (PartsKept (suc g)) (beats at_d b) (Some at_d) b (at mode guard d m) H)
 
-  as_it_is : (b : GuardSearch) → PartsKept 0 b
-  as_it_is (Found g) = refl
-  as_it_is Nothing = tt
-  as_it_is (Refused code) = tt
+  as_it_is : (b : Option ModeGuess) → PartsKept 0 b
+  as_it_is (Some g) = refl
+  as_it_is None = tt
 
   parts_kept : (negates turns : Bool) (gain : ℕ) (xs ys : List Float) (modes guards : List ℕ) → all_in is_mode modes ≡ true → pairs_in (length xs) ≤ 1048576
       → Allowed (sampled negates turns gain) 1 xs → ChangedSamples negates turns gain xs ys → PartsKept gain (guessed xs modes guards)
@@ -269,7 +263,7 @@ module _ {A : Type 0} (f : Pair → A) (same : (j : ℕ) (p q : Pair) → Times 
 
   pub changed_parts : (negates : Bool) (c : Change) (xs ys : List Float) (modes guards : List ℕ) → all_in is_mode modes ≡ true
       → pairs_in (length xs) ≤ 1048576 → Allowed (of_samples negates c) 1 xs → Changed (of_samples negates c) 1 (λ b. b) xs ys
-      → (lent : A) → guess_given of_parts (guessed ys modes guards) lent ≡ guess_given of_parts (guessed xs modes guards) lent
+      → (lent : A) → guess_given of_parts (Ok (guessed ys modes guards)) lent ≡ guess_given of_parts (Ok (guessed xs modes guards)) lent
   changed_parts negates c xs ys modes guards M N A h lent =
-      ap (λ (b : GuardSearch). guess_given of_parts b lent) (changed_guess negates c xs ys modes guards M N A h)
+      ap (λ (b : Option ModeGuess). guess_given of_parts (Ok b) lent) (changed_guess negates c xs ys modes guards M N A h)
       ∙ kept_given c.gain lent (guessed xs modes guards) (parts_kept negates c.turns c.gain xs ys modes guards M N A h)

@@ -2,7 +2,7 @@
 -- hold; 10,560 pairs of (1, 0) find offset 0, with metric 1 and the correlation (256, 0).
 -- Assumes nothing.
 use Prim.Native.Nat.{ℕ, zero, suc, ◌+◌, ◌-◌, ◌*◌, ◌/◌, ◌≤◌, ◌<◌, suc-le-suc}
-use Rattle.std.specs.Prelude.{Bool, ◌≡◌, leb, ltb, pos, length}
+use Rattle.std.specs.Prelude.{Bool, ◌≡◌, leb, ltb, pos, length, Option, Some, None, Ok}
 use Rattle.std.proofs.Math.Bool.{true, false, cond}
 use mathlib.Core.List.{List, [], ◌∷◌}
 use Rattle.std.proofs.Math.Path.{refl, ap}
@@ -27,8 +27,6 @@ use Rattle.guess.specs.Guess.{correlation_at, energy_at, guess_at, offered, scan
 use Rattle.guess.specs.Guess.{guess_code, guess_answer}
 use Rattle.guess.specs.Facts.{first_taken, only_greater, scan_last}
 use Rattle.guess.specs.declared.ModeGuess.{ModeGuess}
-use Rattle.guess.specs.declared.GuardSearch.{GuardSearch}
-use Rattle.guess.specs.declared.GuardSearch.TheVariants.{Found, Nothing}
 
 -- ---- one mode and one guard
 module _ (xs : List Float) (mode guard : ℕ) where
@@ -36,27 +34,27 @@ module _ (xs : List Float) (mode guard : ℕ) where
   need = guard_of mode guard + 4 * symbol_of mode guard
 
   -- too short for the guard
-  alone_short : lags_in (fft_of mode) xs < need → guessed xs (mode ∷ []) (guard ∷ []) ≡ Nothing
+  alone_short : lags_in (fft_of mode) xs < need → guessed xs (mode ∷ []) (guard ∷ []) ≡ None
   unfolding guessed tried_mode tried_guard scan
   alone_short h = rw (lt-leb need (lags_in (fft_of mode) xs) h) (by (ltb (fft_of mode) (pairs_in (length xs))))
     where
-      by : (b : Bool) → cond b Nothing Nothing ≡ Nothing
+      by : (b : Bool) → cond {A = Option ModeGuess} b None None ≡ None
       by true = refl
       by false = refl
 
   -- long enough
-  alone_mode : fft_of mode < pairs_in (length xs) → guessed xs (mode ∷ []) (guard ∷ []) ≡ tried_guard xs mode Nothing guard
+  alone_mode : fft_of mode < pairs_in (length xs) → guessed xs (mode ∷ []) (guard ∷ []) ≡ tried_guard xs mode None guard
   unfolding guessed tried_mode scan
-  alone_mode l = ap (λ (b : Bool). cond b (tried_guard xs mode Nothing guard) Nothing) (lt-ltb (fft_of mode) (pairs_in (length xs)) l)
+  alone_mode l = ap (λ (b : Bool). cond b (tried_guard xs mode None guard) None) (lt-ltb (fft_of mode) (pairs_in (length xs)) l)
 
-  alone_guard : need ≤ lags_in (fft_of mode) xs → tried_guard xs mode Nothing guard ≡ scan (offered xs mode guard) Nothing (range (symbol_of mode guard))
+  alone_guard : need ≤ lags_in (fft_of mode) xs → tried_guard xs mode None guard ≡ scan (offered xs mode guard) None (range (symbol_of mode guard))
   unfolding tried_guard
   alone_guard h =
-      ap (λ (b : Bool). cond b (scan (offered xs mode guard) Nothing (range (symbol_of mode guard))) Nothing) (le-leb need (lags_in (fft_of mode) xs) h)
+      ap (λ (b : Bool). cond b (scan (offered xs mode guard) None (range (symbol_of mode guard))) None) (le-leb need (lags_in (fft_of mode) xs) h)
 
 -- a call that nothing refuses
 pub not_refused : (xs : List Float) (modes guards : List ℕ) (scratch : ℕ) → guess_code modes guards (length xs) scratch ≡ 0
-    → guess_answer xs modes guards scratch ≡ guessed xs modes guards
+    → guess_answer xs modes guards scratch ≡ Ok (guessed xs modes guards)
 unfolding guess_answer
 not_refused xs modes guards scratch e = rw e
 
@@ -68,20 +66,20 @@ pub code_10560 : (floats scratch : ℕ) → floats ≡ 2 * 10560 → 3 * 10561 �
 unfolding guess_code
 code_10560 floats scratch n r = rw (n, le-leb 31683 scratch r)
 
-pub one_short : (xs : List Float) (scratch : ℕ) → length xs ≡ 2 * 10559 → 3 * 10560 ≤ scratch → guess_answer xs (1 ∷ []) (32 ∷ []) scratch ≡ Nothing
+pub one_short : (xs : List Float) (scratch : ℕ) → length xs ≡ 2 * 10559 → 3 * 10560 ≤ scratch → guess_answer xs (1 ∷ []) (32 ∷ []) scratch ≡ Ok None
 one_short xs scratch n r =
-    not_refused xs (1 ∷ []) (32 ∷ []) scratch (code_10559 (length xs) scratch n r) ∙ alone_short xs 1 32 (rw n (lit< tt))
+    not_refused xs (1 ∷ []) (32 ∷ []) scratch (code_10559 (length xs) scratch n r) ∙ ap Ok (alone_short xs 1 32 (rw n (lit< tt)))
 
 -- ---- a search whose first entry is taken and never replaced
-module _ (f : GuardSearch → ℕ → GuardSearch) (g : ModeGuess) (taken : f Nothing 0 ≡ Found g) where
+module _ (f : Option ModeGuess → ℕ → Option ModeGuess) (g : ModeGuess) (taken : f None 0 ≡ Some g) where
   -- n is counted by a variable, so that the numbers below it are never listed
-  first_stays : (n m : ℕ) → n ≡ suc m → ((d : ℕ) → d < n → f (Found g) d ≡ Found g) → scan f Nothing (range n) ≡ Found g
+  first_stays : (n m : ℕ) → n ≡ suc m → ((d : ℕ) → d < n → f (Some g) d ≡ Some g) → scan f None (range n) ≡ Some g
   unfolding scan
-  first_stays n zero e k = ap (λ (i : ℕ). scan f Nothing (range i)) e ∙ taken
+  first_stays n zero e k = ap (λ (i : ℕ). scan f None (range i)) e ∙ taken
   first_stays n (suc m) e k =
-      ap (λ (i : ℕ). scan f Nothing (range i)) e
-      ∙ scan_last f Nothing (range (suc m)) (suc m)
-      ∙ ap (λ (b : GuardSearch). f b (suc m)) (first_stays (suc m) m refl (λ d l. k d (omega arith)))
+      ap (λ (i : ℕ). scan f None (range i)) e
+      ∙ scan_last f None (range (suc m)) (suc m)
+      ∙ ap (λ (b : Option ModeGuess). f b (suc m)) (first_stays (suc m) m refl (λ d l. k d (omega arith)))
       ∙ k (suc m) (omega arith)
 
 -- ---- whole numbers as floats: n / 1, rounded, which is n where it is small enough
@@ -328,7 +326,7 @@ module _ (xs : List Float) (n : length xs ≡ 2 * 10560) (h : (i : ℕ) → i < 
   no_greater : (d : ℕ) → d < 2112 → lt (guess_at xs 1 32 0).metric (guess_at xs 1 32 d).metric ≡ false
   no_greater d D = (λ j. lt (metric_is 0 (lit< tt) j) (metric_is d D j)) ∙ one_not_less
 
-  searched : guessed xs (1 ∷ []) (32 ∷ []) ≡ Found (guess_at xs 1 32 0)
+  searched : guessed xs (1 ∷ []) (32 ∷ []) ≡ Some (guess_at xs 1 32 0)
   searched =
       alone_mode xs 1 32 (rw n (lit< tt))
       ∙ alone_guard xs 1 32 (rw n (lit≤ tt))
@@ -343,12 +341,12 @@ module _ (xs : List Float) (n : length xs ≡ 2 * 10560) (h : (i : ℕ) → i < 
 
 pub ones_found : (xs : List Float) → length xs ≡ 2 * 10560 → ((i : ℕ) → i < 10560 → pair_at xs i ≡ pair (whole binary32 1) (whole binary32 0))
     → guessed xs (1 ∷ []) (32 ∷ [])
-    ≡ Found (record { mode = 1; guard = 32; offset = 0; metric = whole binary64 1; re = whole binary64 256; im = whole binary64 0 })
-ones_found xs n h = searched xs n h ∙ ap Found (guess_is xs n h)
+    ≡ Some (record { mode = 1; guard = 32; offset = 0; metric = whole binary64 1; re = whole binary64 256; im = whole binary64 0 })
+ones_found xs n h = searched xs n h ∙ ap Some (guess_is xs n h)
 
 pub offset_zero : (xs : List Float) (scratch : ℕ) → length xs ≡ 2 * 10560 → 3 * 10561 ≤ scratch
     → ((i : ℕ) → i < 10560 → pair_at xs i ≡ pair (whole binary32 1) (whole binary32 0))
     → guess_answer xs (1 ∷ []) (32 ∷ []) scratch
-    ≡ Found (record { mode = 1; guard = 32; offset = 0; metric = whole binary64 1; re = whole binary64 256; im = whole binary64 0 })
+    ≡ Ok (Some (record { mode = 1; guard = 32; offset = 0; metric = whole binary64 1; re = whole binary64 256; im = whole binary64 0 }))
 offset_zero xs scratch n r h =
-    not_refused xs (1 ∷ []) (32 ∷ []) scratch (code_10560 (length xs) scratch n r) ∙ ones_found xs n h
+    not_refused xs (1 ∷ []) (32 ∷ []) scratch (code_10560 (length xs) scratch n r) ∙ ap Ok (ones_found xs n h)

@@ -1,6 +1,6 @@
 -- The words of the contracts inside this crate.
 -- Definitions only.
-use Rattle.std.specs.Prelude.{ℕ, true, cond, List, ◌≡◌, length, Float}
+use Rattle.std.specs.Prelude.{ℕ, true, cond, List, ◌≡◌, length, Float, Option, Some}
 use Rattle.std.specs.Float.{binary64}
 use Rattle.std.specs.Float.Ieee.{div, le}
 use Rattle.ieee.specs.Constants.{plus_zero}
@@ -11,31 +11,25 @@ use Rattle.correlation.specs.declared.Window.{Window}
 use Rattle.correlation.specs.Correlation.{pairs_in, lags_in}
 use Rattle.correlation.specs.Inner.{Holds, Room}
 use Rattle.guess.specs.declared.ModeGuess.{ModeGuess}
-use Rattle.guess.specs.declared.Best.{Best}
-use Rattle.guess.specs.declared.GuardSearch.{GuardSearch}
-use Rattle.guess.specs.declared.GuardSearch.TheVariants.{Found, Nothing}
 use Rattle.guess.specs.Guess.{beats, tried_guard}
 
--- ---- the best so far as an answer
-abbrev pub search_of : Best → GuardSearch
-search_of b = cond b.found (Found b.guess) Nothing
-
+-- ---- the guess that a window's sums tell
 abbrev pub guess_of : ℕ → ℕ → ℕ → Window → ModeGuess
 guess_of mode guard d w =
     record { mode = mode; guard = guard; offset = d; metric = div binary64 (norm64 (pair w.re w.im)) w.energy; re = w.re; im = w.im }
 
 -- the better of the best so far and a guess with that energy
-abbrev pub better_of : GuardSearch → Float → ModeGuess → GuardSearch
-better_of best energy guess = cond (le energy (plus_zero binary64)) best (cond (beats guess best) (Found guess) best)
+abbrev pub better_of : Option ModeGuess → Float → ModeGuess → Option ModeGuess
+better_of best energy guess = cond (le energy (plus_zero binary64)) best (cond (beats guess best) (Some guess) best)
 
 -- ---- a guard tried, over whatever samples the sums hold
 pub record Triable (sums : List Float) (guard len : ℕ) : Type 0 where
   pub known : is_guard guard ≡ true
   pub room : Room len sums
 
-abbrev pub Tried : List Float → ℕ → ℕ → ℕ → Best → Best → Type 0
+abbrev pub Tried : List Float → ℕ → ℕ → ℕ → Option ModeGuess → Option ModeGuess → Type 0
 Tried sums mode guard len start r =
-    (xs : List Float) → Holds (fft_of mode) xs sums → len ≡ lags_in (fft_of mode) xs → search_of r ≡ tried_guard xs mode (search_of start) guard
+    (xs : List Float) → Holds (fft_of mode) xs sums → len ≡ lags_in (fft_of mode) xs → r ≡ tried_guard xs mode start guard
 
 -- guards that may all be tried over the samples xs
 pub record AllTriable (xs : List Float) (guards : List ℕ) (sums : List Float) : Type 0 where

@@ -2,13 +2,12 @@
 -- it and 2 ^ (2 × k). A gain of 1 leaves a part as it is, whatever it holds. All else that a guess carries, and what else a search answers,
 -- is the same (document 01, "The guess"); that this is so is `changed_guess` of Changed.
 -- Definitions only.
-use Rattle.std.specs.Prelude.{ℕ, zero, suc, ◌*◌, Float}
+use Rattle.std.specs.Prelude.{ℕ, zero, suc, ◌*◌, Float, Option, Some, None, Result, Ok, Err}
 use Rattle.std.specs.Float.{binary64}
 use Rattle.std.specs.Float.Ieee.{mul}
 use Rattle.ieee.specs.Levels.{two}
+use Rattle.params.specs.declared.Refusal.{Refusal}
 use Rattle.guess.specs.declared.ModeGuess.{ModeGuess}
-use Rattle.guess.specs.declared.GuardSearch.{GuardSearch}
-use Rattle.guess.specs.declared.GuardSearch.TheVariants.{Found, Nothing, Refused}
 
 -- a part of the correlation, times the gain twice
 abbrev pub twice_gained : ℕ → Float → Float
@@ -21,7 +20,11 @@ louder_guess k g =
     record { mode = g.mode; guard = g.guard; offset = g.offset; metric = g.metric; re = twice_gained k g.re; im = twice_gained k g.im }
 
 -- those of what a search found
-abbrev pub louder : ℕ → GuardSearch → GuardSearch
-louder k (Found g) = Found (louder_guess k g)
-louder k Nothing = Nothing
-louder k (Refused code) = Refused code
+abbrev pub louder : ℕ → Option ModeGuess → Option ModeGuess
+louder k (Some g) = Some (louder_guess k g)
+louder k None = None
+
+-- those of an answer
+abbrev pub louder_answer : ℕ → Result (Option ModeGuess) Refusal → Result (Option ModeGuess) Refusal
+louder_answer k (Ok found) = Ok (louder k found)
+louder_answer k (Err refusal) = Err refusal

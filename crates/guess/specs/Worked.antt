@@ -1,7 +1,7 @@
 -- A gain worked through: the 10,560 pairs of (1, 0) of Checked, negated or not, turned or not and amplified by 2, find the same offset and metric, and
 -- a correlation of (1024, 0), which is (256, 0) multiplied by the gain twice. Multiplied once it would be another.
 -- Assumes nothing.
-use Rattle.std.specs.Prelude.{ℕ, ◌+◌, ◌*◌, ◌≤◌, ◌<◌, Bool, true, false, List, [], ◌∷◌, ◌≡◌, refl, length, Float}
+use Rattle.std.specs.Prelude.{ℕ, ◌+◌, ◌*◌, ◌≤◌, ◌<◌, Bool, true, false, List, [], ◌∷◌, ◌≡◌, refl, length, Float, Some, Option, Some, Ok}
 use Rattle.std.proofs.Common.{inr, ap, ◌∙◌, le_trans, arith, lit≤}
 use Rattle.std.specs.Float.{binary32, binary64}
 use Rattle.std.specs.Float.Ieee.{round, mul, lt}
@@ -11,11 +11,11 @@ use Rattle.complex.specs.Complex.{Pair, pair}
 use Rattle.complex.specs.Changes.{Change}
 use Rattle.spectra.specs.Spectra.{pair_at}
 use Rattle.spectra.specs.Changes.{Changed, Wholes}
+use Rattle.guess.specs.declared.ModeGuess.{ModeGuess}
 use Rattle.guess.specs.Guess.{guess_answer}
 use Rattle.guess.specs.Louder.{louder}
 use Rattle.guess.specs.Changed.{changed_guess}
 use Rattle.guess.specs.Checked.{whole, not_refused, code_10560, ones_found}
-use Rattle.guess.specs.declared.GuardSearch.TheVariants.{Found}
 
 -- amplified by 2
 abbrev doubled : Bool → Bool → Change
@@ -49,9 +49,9 @@ module _ (xs : List Float) (n : length xs ≡ 2 * 10560) (h : (i : ℕ) → i < 
 
   pub doubled_found : (negates turns : Bool) (ys : List Float) (scratch : ℕ) → 3 * 10561 ≤ scratch → Changed (doubled negates turns) 1 (λ b. b) xs ys
       → guess_answer ys (1 ∷ []) (32 ∷ []) scratch
-      ≡ Found (record { mode = 1; guard = 32; offset = 0; metric = whole binary64 1; re = whole binary64 1024; im = whole binary64 0 })
+      ≡ Ok (Some (record { mode = 1; guard = 32; offset = 0; metric = whole binary64 1; re = whole binary64 1024; im = whole binary64 0 }))
   doubled_found negates turns ys scratch r c =
       not_refused ys (1 ∷ []) (32 ∷ []) scratch (code_10560 (length ys) scratch (c.long ∙ n) r)
-      ∙ changed_guess negates (doubled negates turns) xs ys (1 ∷ []) (32 ∷ []) refl (rw n (lit≤ tt)) (inr (lit≤ tt, all_whole)) c
-      ∙ ap (louder 1) (ones_found xs n h)
-      ∙ (λ j. Found (record { mode = 1; guard = 32; offset = 0; metric = whole binary64 1; re = twice_256 j; im = twice_0 j }))
+      ∙ ap Ok (changed_guess negates (doubled negates turns) xs ys (1 ∷ []) (32 ∷ []) refl (rw n (lit≤ tt)) (inr (lit≤ tt, all_whole)) c)
+      ∙ ap (λ (b : Option ModeGuess). Ok (louder 1 b)) (ones_found xs n h)
+      ∙ (λ j. Ok (Some (record { mode = 1; guard = 32; offset = 0; metric = whole binary64 1; re = twice_256 j; im = twice_0 j })))

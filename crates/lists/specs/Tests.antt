@@ -1,6 +1,7 @@
 -- Tests that antt computes over a table or a range of numbers, and the laws that turn a passed test into its rule at each entry.
 -- Assumes nothing.
 use Rattle.std.specs.Prelude.{ℕ, zero, suc, ◌+◌, ◌≤◌, ◌<◌, Bool, true, false, cond, ◌&&◌, ◌||◌, List, [], ◌∷◌, ◌≡◌, refl, eqb, length, get_or, drop}
+use Rattle.std.specs.List.{list_all}
 use Rattle.std.proofs.Common.{sym, ap, ◌∙◌, arith, le_of_suc-le-suc, not-suc-le-zero, add-one, drop_of_length-le, drop-cons}
 use Rattle.std.proofs.Math.Decide.{dec_lt}
 
@@ -21,8 +22,7 @@ count_below f (suc n) = cond (f n) 1 0 + count_below f n
 
 -- whether each entry passes
 abbrev pub all_in : (ℕ → Bool) → List ℕ → Bool
-all_in f [] = true
-all_in f (x ∷ xs) = f x && all_in f xs
+all_in f xs = list_all f xs
 
 pub both_left : (a b : Bool) → (a && b) ≡ true → a ≡ true
 both_left true b e = refl

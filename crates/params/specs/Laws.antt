@@ -1,15 +1,17 @@
 -- What callers use of the sizes: bounds, and how they depend on one another.
 -- Assumes nothing.
-use Rattle.std.specs.Prelude.{ℕ, zero, suc, ◌+◌, ◌*◌, ◌≤◌, ◌≡◌, Bool, true, false, cond, eqb, Ok, Err, refl}
+use Rattle.std.specs.Prelude.{ℕ, zero, suc, ◌+◌, ◌*◌, ◌≤◌, ◌≡◌, Bool, true, false, cond, eqb, List, length, set, Ok, Err, refl}
 use Rattle.std.proofs.Common.{lit≤, sym, arith}
 use Rattle.std.proofs.lemmas.Bool.{eqb-true, eqb-false}
+use Rattle.std.proofs.lemmas.List.{length-map, map-set}
+use Rattle.params.specs.declared.SegmentKind.{SegmentKind}
 use Rattle.params.specs.declared.Refusal.{Refusal}
 use Rattle.params.specs.declared.Refusal.TheVariants.{BadMode, BadKinds, BadPhase, Outside, NotWhole, NoSpectra, WrongLength}
 use Rattle.params.specs.declared.Refusal.TheVariants.{BadBound, BadGuard, TooWide, BadForm}
 use Rattle.params.specs.declared.Mode.{Mode}
 use Rattle.params.specs.declared.Mode.TheVariants.{M1, M2, M3}
 use Rattle.params.specs.Params.{carriers_per_segment, data_carriers_per_segment, total_carriers, fft_size}
-use Rattle.params.specs.Params.{refusal_number, refusal_of, code_of, answered}
+use Rattle.params.specs.Params.{refusal_number, refusal_of, code_of, answered, kind_code, kind_codes}
 
 -- what bounds the sizes of any mode
 pub record Sized (m : Mode) : Type 0 where
@@ -30,6 +32,15 @@ sized M2 =
     record { carriers_low = lit≤ tt; carriers_high = lit≤ tt; data_high = lit≤ tt; band = refl; band_high = lit≤ tt; within = lit≤ tt; fft_high = lit≤ tt }
 sized M3 =
     record { carriers_low = lit≤ tt; carriers_high = lit≤ tt; data_high = lit≤ tt; band = refl; band_high = lit≤ tt; within = lit≤ tt; fft_high = lit≤ tt }
+
+-- ---- the codes of kinds: as many, and one more read is one more code
+pub codes_length : (kinds : List SegmentKind) → length (kind_codes kinds) ≡ length kinds
+unfolding kind_codes
+codes_length kinds = length-map kinds kind_code
+
+pub codes_set : (kinds : List SegmentKind) (seg : ℕ) (kind : SegmentKind) → kind_codes (set kinds seg kind) ≡ set (kind_codes kinds) seg (kind_code kind)
+unfolding kind_codes
+codes_set kinds seg kind = map-set kind_code kinds seg kind
 
 -- ---- the numbers of refusals are 1 to 11
 pub numbered : (n : ℕ) → (n ≡ 0 → ⊥) → n ≤ 11 → refusal_number (refusal_of n) ≡ n

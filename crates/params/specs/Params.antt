@@ -1,6 +1,6 @@
 -- Document 01's codes of modes, guards and kinds, and its sizes of a mode (ARIB STD-B31, Tables 3-1 and 3-2).
 -- Definitions only.
-use Rattle.std.specs.Prelude.{ℕ, cond, eqb, Option, Some, None, Result, Ok, Err, ◌≡◌, ◌≤◌}
+use Rattle.std.specs.Prelude.{ℕ, cond, eqb, List, map, Option, Some, None, Result, Ok, Err, ◌≡◌, ◌≤◌}
 use Rattle.params.specs.declared.Refusal.{Refusal}
 use Rattle.params.specs.declared.Refusal.TheVariants.{BadMode, BadKinds, BadPhase, Outside, NotWhole, NoSpectra, WrongLength}
 use Rattle.params.specs.declared.Refusal.TheVariants.{BadBound, BadGuard, TooWide, BadForm}
@@ -98,6 +98,10 @@ GuardTold d (Err refusal) = (guard_from d ≡ None) × (refusal ≡ BadGuard)
 abbrev pub kind_code : SegmentKind → ℕ
 kind_code Coherent = 0
 kind_code Differential = 1
+
+-- the codes of the kinds of a band
+unfoldable pub kind_codes : List SegmentKind → List ℕ
+kind_codes = map kind_code
 
 abbrev pub kind_from : ℕ → SegmentKind
 kind_from code = cond (eqb code 0) Coherent Differential

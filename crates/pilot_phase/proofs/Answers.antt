@@ -14,10 +14,9 @@ use Rattle.lists.specs.Tests.{both_left, both_right}
 use Rattle.params.specs.declared.Mode.{Mode}
 use Rattle.params.specs.declared.Refusal.{Refusal}
 use Rattle.params.specs.declared.Refusal.TheVariants.{NotWhole}
-use Rattle.params.specs.Params.{total_carriers, code_of}
+use Rattle.params.specs.Params.{total_carriers, code_of, kind_codes}
 use Rattle.spectra.specs.Spectra.{are_spectra}
 use Rattle.frame.specs.declared.FrameLayout.{FrameLayout}
-use Rattle.frame.specs.Roles.{kind_codes}
 use Rattle.frame.specs.Inner.{Accepted, RefusedLayout}
 use Rattle.frame.specs.Answers.{by_refusal}
 use Rattle.ballots.specs.Ballots.{pilots, ballots}

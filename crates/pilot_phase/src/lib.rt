@@ -5,8 +5,7 @@
 #![tactic(auto)]
 
 ghost use Rattle.std.specs.Prelude.{◌≡◌, length};
-ghost use Rattle.params.specs.Params.{mode_from, total_carriers};
-ghost use Rattle.frame.specs.Roles.{kind_codes};
+ghost use Rattle.params.specs.Params.{mode_from, total_carriers, kind_codes};
 ghost use Rattle.spectra.specs.Spectra.{are_spectra};
 ghost use Rattle.ballots.specs.Ballots.{ballots};
 ghost use Rattle.pilot_phase.specs.PilotPhase.{PhaseDetected};

@@ -38,10 +38,9 @@ impl BinSums {
     pub fn step(self, x: C32, y: C32) -> BinSums
         ensures { Stepped self (of32 x) (of32 y) result }
     {
-        let p = x.mul(y.conj());
-        let n = self.num;
+        let p = x * y.conj();
         BinSums {
-            num: n.add(p.mul(p)),
+            num: self.num + p * p,
             den: self.den + p.norm_sqr(),
         }
     }
@@ -55,7 +54,7 @@ impl BinSums {
         let mut den = self.den;
         let mut i: usize = 0;
         while i < n {
-            num = num.add(spectra::pair_at(squares, i));
+            num = num + spectra::pair_at(squares, i);
             den = den + sizes[i];
             i += 1;
         }
@@ -106,8 +105,8 @@ fn put_terms(pairs: &[f32], from: usize, n: usize, squares: &mut [f32], sizes: &
     while i < n {
         let y = spectra::pair_at(pairs, from + i);
         let x = spectra::pair_at(pairs, from + i + 1);
-        let p = x.mul(y.conj());
-        spectra::put_pair(squares, i, p.mul(p));
+        let p = x * y.conj();
+        spectra::put_pair(squares, i, p * p);
         sizes[i] = p.norm_sqr();
         i += 1;
     }
@@ -253,7 +252,7 @@ fn write_block(block: &[f32], bins: BinBlock, out: &mut [f32])
 // The ratios of an accepted call. A slot has a line of the cache more than the bin's pairs, since slots
 // that lie a power of two apart share too few of the cache's places; two lines of bins are copied at a
 // time where the block's 8,256 pairs have room.
-fn write_ratios(spectra: &[f32], len: usize, out: &mut [f32])
+pub fn write_ratios(spectra: &[f32], len: usize, out: &mut [f32])
     requires { Accepted len (length spectra.now) (length out.old) 0 }
     ensures { out.new ≡ bin_ratios len spectra.now }
 {

@@ -4,62 +4,31 @@
 
 ghost use Rattle.std.specs.Prelude.{◌≡◌, map};
 ghost use Rattle.lists.specs.Tests.{all_in};
-ghost use Rattle.samples_needed.specs.Samples.{fft_of, needed_by, greatest, SamplesTold};
-ghost use Rattle.samples_needed.specs.Inner.{is_code, Counted};
+ghost use Rattle.samples_needed.specs.Samples.{is_mode, is_guard, fft_of, needed_by, greatest, SamplesTold};
+ghost use Rattle.samples_needed.specs.Inner.{Counted};
 
-use params::{GuardDenominator, GuardInterval, Mode, ModeNumber};
+use params::{GuardInterval, Mode, Refusal};
 
-#[derive(Clone, Copy)]
-pub enum SamplesNeeded {
-    Samples(usize),
-    Refused(u8),
-}
-
-// What the codes of a list stand for: modes, or guards' denominators.
-#[derive(Clone, Copy)]
-pub enum Codes {
-    Modes,
-    Guards,
-}
-
-// Whether a number is one of the codes.
-fn is_code(codes: Codes, n: u8) -> bool
-    ensures { result ≡ is_code codes n }
+// Whether each number of a list is a mode's.
+pub fn are_modes(list: &[u8]) -> bool
+    ensures { result ≡ all_in is_mode list.now }
 {
-    match codes {
-        Codes::Modes => match Mode::from_number(n) {
-            ModeNumber::Known(_) => true,
-            ModeNumber::Unknown => false,
-        },
-        Codes::Guards => match GuardInterval::from_denominator(n as usize) {
-            GuardDenominator::Known(_) => true,
-            GuardDenominator::Unknown => false,
-        },
-    }
+    list.iter().all(|n| Mode::try_from(*n).is_ok())
 }
 
-// Whether each number of a list is.
-pub fn are_codes(codes: Codes, list: &[u8]) -> bool
-    ensures { result ≡ all_in (is_code codes) list.now }
+// Whether each number of a list is a guard's denominator.
+pub fn are_guards(list: &[u8]) -> bool
+    ensures { result ≡ all_in is_guard list.now }
 {
-    let mut i: usize = 0;
-    while i < list.len() {
-        if !is_code(codes, list[i]) {
-            return false;
-        }
-        i += 1;
-    }
-    true
+    list.iter()
+        .all(|d| GuardInterval::try_from(*d as usize).is_ok())
 }
 
 // n of a mode's number, and 0 for a number that is no mode's.
 pub fn fft_of(mode: u8) -> usize
     ensures { result ≡ fft_of mode }
 {
-    let ModeNumber::Known(m) = Mode::from_number(mode) else {
-        return 0;
-    };
-    m.fft_size()
+    Mode::try_from(mode).map_or(0, Mode::fft_size)
 }
 
 // The most samples that a mode needs with any of the guards.
@@ -69,13 +38,8 @@ fn mode_needs(mode: u8, guards: &[u8], symbols: usize) -> usize
 {
     let n = fft_of(mode);
     let mut most: usize = 0;
-    let mut i: usize = 0;
-    while i < guards.len() {
-        let needed = (symbols + 1) * (n + n / guards[i] as usize) + n;
-        if most < needed {
-            most = needed;
-        }
-        i += 1;
+    for guard in guards {
+        most = most.max((symbols + 1) * (n + n / *guard as usize) + n);
     }
     most
 }
@@ -83,26 +47,22 @@ fn mode_needs(mode: u8, guards: &[u8], symbols: usize) -> usize
 // Samples that `guess::detect_mode` needs to try every mode and guard with at least `symbols` symbols.
 //
 // Refused by 1 for a bad mode, 9 for a bad guard, 10 for more than 64 symbols. Empty lists give 0.
-pub fn samples_needed(modes: &[u8], guards: &[u8], symbols: usize) -> SamplesNeeded
+#[tactic(auto, using(crate::proofs::Most::greatest_more))]
+pub fn samples_needed(modes: &[u8], guards: &[u8], symbols: usize) -> Result<usize, Refusal>
     ensures { SamplesTold modes.now guards.now symbols result }
 {
-    if !are_codes(Codes::Modes, modes) {
-        return SamplesNeeded::Refused(1);
+    if !are_modes(modes) {
+        return Err(Refusal::BadMode);
     }
-    if !are_codes(Codes::Guards, guards) {
-        return SamplesNeeded::Refused(9);
+    if !are_guards(guards) {
+        return Err(Refusal::BadGuard);
     }
     if symbols > 64 {
-        return SamplesNeeded::Refused(10);
+        return Err(Refusal::TooWide);
     }
     let mut most: usize = 0;
-    let mut i: usize = 0;
-    while i < modes.len() {
-        let needed = mode_needs(modes[i], guards, symbols);
-        if most < needed {
-            most = needed;
-        }
-        i += 1;
+    for mode in modes {
+        most = most.max(mode_needs(*mode, guards, symbols));
     }
-    SamplesNeeded::Samples(most)
+    Ok(most)
 }

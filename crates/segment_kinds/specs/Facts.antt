@@ -1,7 +1,7 @@
 -- The kinds read 9, 18 and 36 bins of every segment in modes 1, 2 and 3: antt computes it over all segments. A score of exactly 0.5 is coherent,
 -- and so is a NaN. Each ratio that an accepted call leaves is what `bin_ratio` answers for its bin (`kinds_each`).
 -- Assumes nothing.
-use Rattle.std.specs.Prelude.{ℕ, ◌<◌, ◌≡◌, refl, List, length, Float}
+use Rattle.std.specs.Prelude.{ℕ, ◌<◌, ◌≡◌, refl, List, length, Float, Some, Result}
 use Rattle.std.specs.Float.{nan}
 use Rattle.std.specs.Float.Ieee.{lt, of_bits}
 use Rattle.ieee.specs.Constants.{half32}
@@ -9,8 +9,8 @@ use Rattle.ieee.specs.Order.{lt_nan}
 use Rattle.lists.specs.Tests.{values, agree}
 use Rattle.params.specs.declared.Mode.{Mode}
 use Rattle.params.specs.declared.Mode.TheVariants.{M1, M2, M3}
-use Rattle.params.specs.declared.ModeNumber.TheVariants.{Known}
-use Rattle.params.specs.Params.{total_carriers}
+use Rattle.params.specs.declared.Refusal.{Refusal}
+use Rattle.params.specs.Params.{total_carriers, code_of}
 use Rattle.ratio.specs.EachBin.{EachBin, metric_each}
 use Rattle.segment_kinds.specs.declared.DetectedKinds.{DetectedKinds}
 use Rattle.segment_kinds.specs.SegmentKinds.{kind_places, kind_of_score, kinds_code, kinds_leaves, KindsDetected}
@@ -37,7 +37,7 @@ pub nan_coherent : kind_of_score nan ≡ 0
 nan_coherent = rw (lt_nan half32)
 
 -- each ratio that an accepted call leaves is what `bin_ratio` answers for that bin's pairs laid one behind another
-pub kinds_each : (m : Mode) (xs old : List Float) (r : DetectedKinds) (now : List Float) → KindsDetected (Known m) xs old r now → r.code ≡ 0
+pub kinds_each : (m : Mode) (xs old : List Float) (r : Result DetectedKinds Refusal) (now : List Float) → KindsDetected (Some m) xs old r now → code_of r ≡ 0
     → EachBin (total_carriers m) xs now
 unfolding kinds_code kinds_leaves
-kinds_each m xs old r now h z = metric_each (total_carriers m) xs old now r.code (record { code = h.code; leaves = h.leaves }) z
+kinds_each m xs old r now h z = metric_each (total_carriers m) xs old now (code_of r) (record { code = h.code; leaves = h.leaves }) z

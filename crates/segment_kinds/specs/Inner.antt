@@ -3,15 +3,13 @@
 use Rattle.std.specs.Prelude.{ℕ, ◌+◌, ◌*◌, ◌≤◌, ◌<◌, Bool, not, List, ◌++◌, map, ◌≡◌, pos, get_or, length, Float}
 use Rattle.std.specs.Float.{nan, binary32}
 use Rattle.std.specs.Float.Ieee.{div, of_int}
-use Rattle.ieee.specs.Constants.{plus_zero, minus_zero}
+use Rattle.ieee.specs.Constants.{minus_zero}
 use Rattle.ieee.specs.Sums.{total}
-use Rattle.lists.specs.Lists.{up_to, select, Inside}
+use Rattle.lists.specs.Lists.{select, Inside}
 use Rattle.lists.specs.Tests.{memb}
 use Rattle.params.specs.declared.Mode.{Mode}
 use Rattle.params.specs.Params.{carriers_per_segment, total_carriers}
-use Rattle.segment_kinds.specs.declared.DetectedKinds.{DetectedKinds}
 use Rattle.segment_kinds.specs.declared.Mean.{Mean}
-use Rattle.segment_kinds.specs.SegmentKinds.{kind_scores, detected_kinds}
 
 -- in neither list of coherent places: `telling` of a segment, by its rows
 abbrev pub is_telling : List ℕ → List ℕ → ℕ → Bool
@@ -25,14 +23,13 @@ kept tmcc ac1 places = select (is_telling tmcc ac1) places
 abbrev pub ratio_at : Mode → ℕ → List Float → ℕ → Float
 ratio_at mode place ratios p = get_or ratios (place * carriers_per_segment mode + p) nan
 
--- a segment, by its number or by its place, of a band with n ratios
+-- a segment, by its number, of a band with n ratios
 pub record Banded (mode : Mode) (seg n : ℕ) : Type 0 where
   pub segment : seg < 13
   pub band : n ≡ total_carriers mode
 
 -- places of a segment, after `count` others: place 0 and two rows of at most 20 at the most
-pub record Addable (count : ℕ) (mode : Mode) (place : ℕ) (places : List ℕ) (n : ℕ) : Type 0 where
-  pub here : Banded mode place n
+pub record Addable (count : ℕ) (mode : Mode) (places : List ℕ) : Type 0 where
   pub few : count + length places ≤ 41
   pub inside : Inside places (carriers_per_segment mode)
 
@@ -46,21 +43,8 @@ unfoldable pub mean_of : (ℕ → Float) → List ℕ → Float
 mean_of f places = div binary32 (total binary32 minus_zero (map f places)) (of_int binary32 (pos (length places)))
 
 -- rows of a segment
-pub record Scorable (mode : Mode) (place : ℕ) (ac2 differential : List ℕ) (n : ℕ) : Type 0 where
-  pub here : Banded mode place n
+pub record Scorable (mode : Mode) (ac2 differential : List ℕ) : Type 0 where
   pub ac2_short : length ac2 ≤ 20
   pub ac2_inside : Inside ac2 (carriers_per_segment mode)
   pub tmcc_short : length differential ≤ 20
   pub tmcc_inside : Inside differential (carriers_per_segment mode)
-
--- kinds and scores of all segments of a band with these ratios
-pub record AllDetected (mode : Mode) (ratios : List Float) (r : DetectedKinds) : Type 0 where
-  pub code : r.code ≡ 0
-  pub kinds : r.kinds ≡ detected_kinds mode ratios
-  pub scores : r.scores ≡ kind_scores mode ratios
-
--- a refusal: kinds and scores are zeros
-pub record NoKinds (code : ℕ) (r : DetectedKinds) : Type 0 where
-  pub same : r.code ≡ code
-  pub kinds : r.kinds ≡ up_to (λ seg. 0) 13
-  pub scores : r.scores ≡ up_to (λ seg. plus_zero binary32) 13

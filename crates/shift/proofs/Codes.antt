@@ -1,12 +1,12 @@
 -- The refusal that the tests of `integer_cfo` decide.
 -- Assumes nothing.
+use Rattle.std.proofs.Common.{Some}
 use Prim.Native.Nat.{ℕ, ◌/◌, ◌≤◌, ◌<◌}
 use mathlib.Core.Path.{◌≡◌, refl, ◌∙◌}
 use borrow.Author.Tests.{le-leb, lt-leb}
 use lib.Dec.{leb}
 use Rattle.lists.specs.Refusals.{unless, refused_first, let_pass}
 use Rattle.params.specs.declared.Mode.{Mode}
-use Rattle.params.specs.declared.ModeNumber.TheVariants.{Known}
 use Rattle.params.specs.Params.{fft_size}
 use Rattle.ratio.specs.Ratio.{metric_code}
 use Rattle.ratio.specs.Codes.{later_counts}
@@ -15,7 +15,7 @@ use Rattle.shift.specs.Shift.{shift_code}
 -- the operation's code, by the tests on the way
 module _ (m : Mode) (floats room bound n code : ℕ) (size : n ≡ fft_size m) (told : code ≡ metric_code n floats room 0) where
   abbrev result : ℕ
-  result = shift_code (Known m) floats room bound
+  result = shift_code (Some m) floats room bound
 
   abbrev behind : ℕ
   behind = unless (leb bound (n / 2)) 8 0

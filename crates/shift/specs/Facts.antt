@@ -7,29 +7,28 @@
 -- The pattern has 27, 53 and 105 bins in modes 1, 2 and 3. An answer has the number that its refusals decide, and an accepted
 -- call tells the winner and leaves the ratios, each of which is what `bin_ratio` answers for its bin (`shift_each`).
 -- Assumes nothing.
-use Rattle.std.specs.Prelude.{ℕ, ◌+◌, ◌*◌, ◌<◌, true, List, ◌≡◌, refl, pos, length}
+use Rattle.params.specs.declared.Refusal.{Refusal}
+use Rattle.std.specs.Prelude.{ℕ, ◌+◌, ◌*◌, ◌/◌, ◌<◌, leb, true, List, ◌≡◌, refl, pos, length, Option, Some, None, Result, Ok}
 use Rattle.std.proofs.Math.Bool.{false}
 use Rattle.std.proofs.Math.Logic.{inl, inr}
 use Rattle.std.proofs.Math.Path.{sym, ap}
-use Rattle.std.proofs.Common.{◌∙◌, subst, arith}
+use Rattle.std.proofs.Common.{◌∙◌, subst, arith, lit≤}
 use Rattle.std.proofs.Math.Dec.{T}
 use Rattle.std.proofs.Math.IntN.{ℤ}
 use Rattle.std.specs.Float.Ieee.{Float, minus, lt, le, is_nan}
-use Rattle.lists.specs.Refusals.{numbered}
+use Rattle.lists.specs.Refusals.{unless_most}
+use Rattle.params.specs.Laws.{answered_code}
 use Rattle.ieee.specs.Constants.{lowest}
 use Rattle.ieee.specs.Numbers.{same_bool}
 use Rattle.ieee.specs.Order.{le_self}
 use Rattle.params.specs.declared.Mode.{Mode}
 use Rattle.params.specs.declared.Mode.TheVariants.{M1, M2, M3}
-use Rattle.params.specs.declared.ModeNumber.{ModeNumber}
-use Rattle.params.specs.declared.ModeNumber.TheVariants.{Known, Unknown}
-use Rattle.params.specs.Params.{fft_size}
+use Rattle.params.specs.Params.{fft_size, code_of}
+use Rattle.shift.specs.declared.FoundShift.{FoundShift}
 use Rattle.ratio.specs.Ratio.{bin_ratios}
-use Rattle.ratio.specs.Codes.{accepted}
+use Rattle.ratio.specs.Codes.{accepted, code_most}
 use Rattle.ratio.specs.EachBin.{EachBin, each_bin}
-use Rattle.shift.specs.declared.ShiftAnswer.{ShiftAnswer}
-use Rattle.shift.specs.declared.ShiftAnswer.TheVariants.{Found, Refused}
-use Rattle.shift.specs.Shift.{winner, sum_at, best_shift, found_of, pattern_carriers, pattern, shift_code, shift_leaves, shift_answer, shift_number, Shifted}
+use Rattle.shift.specs.Shift.{winner, sum_at, best_shift, found_of, pattern_carriers, pattern, shift_code, shift_leaves, shift_answer, Shifted}
 use Rattle.shift.specs.Searches.{found_kind, found_most, found_first, found_nan}
 use Rattle.shift.specs.Moved.{Laid, ratios_no_minus, sum_above}
 
@@ -72,29 +71,31 @@ module _ (n : ℕ) (bins : List ℕ) (bound : ℕ) where
   all_nan ratios = found_nan (sum_at n bins ratios) bound
 
 -- ---- the answer's number
-pub shift_number_lem : (mode : ModeNumber) (xs : List Float) (bound room : ℕ)
-    → shift_number (shift_answer mode xs bound room) ≡ shift_code mode (length xs) room bound
+pub shift_number_lem : (mode : Option Mode) (xs : List Float) (bound room : ℕ)
+    → code_of (shift_answer mode xs bound room) ≡ shift_code mode (length xs) room bound
 unfolding shift_answer shift_code
-shift_number_lem Unknown xs bound room = refl
-shift_number_lem (Known m) xs bound room = numbered shift_number Refused (shift_code (Known m) (length xs) room bound) _ refl (λ k. refl)
+shift_number_lem None xs bound room = refl
+shift_number_lem (Some m) xs bound room =
+    answered_code (shift_code (Some m) (length xs) room bound) _
+    (code_most (fft_size m) (length xs) room _ (unless_most (leb bound (fft_size m / 2)) 8 0 11 (lit≤ tt) (lit≤ tt)))
 
 -- what an accepted call answers, and what it leaves
-module _ (m : Mode) (xs old : List Float) (bound : ℕ) (accepted : shift_code (Known m) (length xs) (length old) bound ≡ 0) where
-  pub accepted_answer : shift_answer (Known m) xs bound (length old)
-      ≡ Found (found_of (pattern m) (best_shift (fft_size m) (pattern m) bound (bin_ratios (fft_size m) xs)))
+module _ (m : Mode) (xs old : List Float) (bound : ℕ) (accepted : shift_code (Some m) (length xs) (length old) bound ≡ 0) where
+  pub accepted_answer : shift_answer (Some m) xs bound (length old)
+      ≡ Ok (found_of (pattern m) (best_shift (fft_size m) (pattern m) bound (bin_ratios (fft_size m) xs)))
   unfolding shift_answer
   accepted_answer = rw accepted
 
-  pub accepted_leaves : shift_leaves (Known m) xs bound old ≡ bin_ratios (fft_size m) xs
+  pub accepted_leaves : shift_leaves (Some m) xs bound old ≡ bin_ratios (fft_size m) xs
   unfolding shift_leaves
   accepted_leaves = rw accepted
 
 -- each ratio that an accepted call leaves is what `bin_ratio` answers for that bin's pairs laid one behind another
-pub shift_each : (m : Mode) (xs : List Float) (bound : ℕ) (old : List Float) (r : ShiftAnswer) (now : List Float)
-    → Shifted (Known m) xs bound old r now → shift_number r ≡ 0 → EachBin (fft_size m) xs now
+pub shift_each : (m : Mode) (xs : List Float) (bound : ℕ) (old : List Float) (r : Result FoundShift Refusal) (now : List Float)
+    → Shifted (Some m) xs bound old r now → code_of r ≡ 0 → EachBin (fft_size m) xs now
 unfolding shift_code
 shift_each m xs bound old r now h z =
-    let none : shift_code (Known m) (length xs) (length old) bound ≡ 0 = sym h.number ∙ z in
+    let none : shift_code (Some m) (length xs) (length old) bound ≡ 0 = sym h.number ∙ z in
     let a = accepted (fft_size m) (length xs) (length old) _ none in
     rw (h.leaves, accepted_leaves m xs old bound none) (each_bin (fft_size m) xs a.some a.few)
 

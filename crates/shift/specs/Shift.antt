@@ -1,7 +1,9 @@
 -- The shift (acquire.rs, `integer_cfo`; document 01, "Ratios, shift and kinds"): the pattern of AC1 carriers and the edge is laid over the
 -- ratios at every shift from -bound to bound, and the greatest sum wins.
 -- Definitions only.
-use Rattle.std.specs.Prelude.{ℕ, suc, ◌+◌, ◌-◌, ◌*◌, ◌/◌, ◌%◌, cond, List, [], ◌∷◌, ◌++◌, map, ◌≡◌, eqb, leb, ℤ, pos, negsuc, get_or, length, Float}
+use Rattle.params.specs.declared.Refusal.{Refusal}
+use Rattle.params.specs.declared.Refusal.TheVariants.{BadMode}
+use Rattle.std.specs.Prelude.{ℕ, suc, ◌+◌, ◌-◌, ◌*◌, ◌/◌, ◌%◌, cond, List, [], ◌∷◌, ◌++◌, map, ◌≡◌, eqb, leb, ℤ, pos, negsuc, get_or, length, Float, Option, Some, None, Result, Err}
 use Rattle.std.specs.Float.{nan, binary32}
 use Rattle.std.specs.Float.Ieee.{minus, lt, div, of_int}
 use Rattle.ieee.specs.Constants.{minus_zero, lowest}
@@ -9,16 +11,12 @@ use Rattle.ieee.specs.Sums.{total}
 use Rattle.lists.specs.Lists.{range, joined}
 use Rattle.lists.specs.Refusals.{unless}
 use Rattle.params.specs.declared.Mode.{Mode}
-use Rattle.params.specs.declared.ModeNumber.{ModeNumber}
-use Rattle.params.specs.declared.ModeNumber.TheVariants.{Known, Unknown}
 use Rattle.params.specs.declared.SegmentKind.TheVariants.{Coherent}
-use Rattle.params.specs.Params.{fft_size, carriers_per_segment, total_carriers}
+use Rattle.params.specs.Params.{fft_size, carriers_per_segment, total_carriers, code_of, answered}
 use Rattle.tables.specs.Places.{ac1_of}
 use Rattle.ofdm.specs.Band.{place_of, bin_of}
 use Rattle.ratio.specs.Ratio.{bin_ratios, metric_code}
 use Rattle.shift.specs.declared.FoundShift.{FoundShift}
-use Rattle.shift.specs.declared.ShiftAnswer.{ShiftAnswer}
-use Rattle.shift.specs.declared.ShiftAnswer.TheVariants.{Found, Refused}
 
 -- ---- the pattern: AC1 places by segment number 0 to 12, then the edge, as bins
 unfoldable pub pattern_carriers : Mode → List ℕ
@@ -66,34 +64,23 @@ abbrev pub found_of : List ℕ → Winner → FoundShift
 found_of bins w = record { shift = w.shift; score = score_of bins w.sum }
 
 -- ---- the operation: 1; 5 unless whole spectra, at most 1,024; 6 if none; 7 unless n ratios; 8 for a bound above n/2
-unfoldable pub shift_code : ModeNumber → ℕ → ℕ → ℕ → ℕ
-shift_code Unknown floats room bound = 1
-shift_code (Known m) floats room bound = metric_code (fft_size m) floats room (unless (leb bound (fft_size m / 2)) 8 0)
+unfoldable pub shift_code : Option Mode → ℕ → ℕ → ℕ → ℕ
+shift_code None floats room bound = 1
+shift_code (Some m) floats room bound = metric_code (fft_size m) floats room (unless (leb bound (fft_size m / 2)) 8 0)
 
 -- the lent ratios at exit
-unfoldable pub shift_leaves : ModeNumber → List Float → ℕ → List Float → List Float
-shift_leaves Unknown xs bound old = old
-shift_leaves (Known m) xs bound old = cond (eqb (shift_code (Known m) (length xs) (length old) bound) 0) (bin_ratios (fft_size m) xs) old
+unfoldable pub shift_leaves : Option Mode → List Float → ℕ → List Float → List Float
+shift_leaves None xs bound old = old
+shift_leaves (Some m) xs bound old = cond (eqb (shift_code (Some m) (length xs) (length old) bound) 0) (bin_ratios (fft_size m) xs) old
 
 -- the answer
-unfoldable pub shift_answer : ModeNumber → List Float → ℕ → ℕ → ShiftAnswer
-shift_answer Unknown xs bound room = Refused 1
-shift_answer (Known m) xs bound room =
+unfoldable pub shift_answer : Option Mode → List Float → ℕ → ℕ → Result FoundShift Refusal
+shift_answer None xs bound room = Err BadMode
+shift_answer (Some m) xs bound room =
     let w = best_shift (fft_size m) (pattern m) bound (bin_ratios (fft_size m) xs) in
-    let code = shift_code (Known m) (length xs) room bound in
-    cond (eqb code 0) (Found (found_of (pattern m) w)) (Refused code)
+    answered (shift_code (Some m) (length xs) room bound) (found_of (pattern m) w)
 
--- the number of an answer: 0, or the refusal's
-abbrev pub shift_number : ShiftAnswer → ℕ
-shift_number (Found found) = 0
-shift_number (Refused code) = code
-
--- what a found shift tells, or what was lent
-abbrev pub shift_given : {A : Type 0} → (FoundShift → A) → ShiftAnswer → A → A
-shift_given told (Found found) lent = told found
-shift_given told (Refused code) lent = lent
-
-pub record Shifted (mode : ModeNumber) (xs : List Float) (bound : ℕ) (old : List Float) (r : ShiftAnswer) (now : List Float) : Type 0 where
-  pub number : shift_number r ≡ shift_code mode (length xs) (length old) bound
+pub record Shifted (mode : Option Mode) (xs : List Float) (bound : ℕ) (old : List Float) (r : Result FoundShift Refusal) (now : List Float) : Type 0 where
+  pub number : code_of r ≡ shift_code mode (length xs) (length old) bound
   pub answer : r ≡ shift_answer mode xs bound (length old)
   pub leaves : now ≡ shift_leaves mode xs bound old

@@ -9,19 +9,13 @@ ghost use Rattle.shift.specs.Shift.{pattern, Shifted};
 ghost use Rattle.shift.specs.Inner.{segment_bins, Room, Put, sum_up, Movable, Bounded, BestFound};
 
 use ofdm::{BandCarrier, FftBin, Segment, SegmentPlace};
-use params::{Mode, ModeNumber, SegmentKind};
+use params::{Mode, Refusal, SegmentKind};
 
 // A shift, and its score: the sum of the pattern's ratios divided by their number.
 #[derive(Clone, Copy)]
 pub struct FoundShift {
     pub shift: i64,
     pub score: f32,
-}
-
-#[derive(Clone, Copy)]
-pub enum ShiftAnswer {
-    Found(FoundShift),
-    Refused(u8),
 }
 
 // A shift, as its number from the lowest one, and its sum.
@@ -100,25 +94,25 @@ fn search(bins: &[u32], ratios: &[f32], bound: usize) -> Best
 //
 // Refused by 1 for a bad mode, 5 unless whole spectra, at most 1,024, 6 if none, 7 unless n ratios, 8
 // for a bound above n/2.
-pub fn integer_cfo(mode: u8, spectra: &[f32], bound: usize, ratios: &mut [f32]) -> ShiftAnswer
+pub fn integer_cfo(
+    mode: u8,
+    spectra: &[f32],
+    bound: usize,
+    ratios: &mut [f32],
+) -> Result<FoundShift, Refusal>
     ensures { Shifted (mode_from mode) spectra.now bound ratios.old result ratios.new }
 {
-    let ModeNumber::Known(m) = Mode::from_number(mode) else {
-        return ShiftAnswer::Refused(1);
-    };
+    let m = Mode::try_from(mode)?;
     let n = m.fft_size();
-    let code = ratio::refusal(n, spectra.len(), ratios.len());
-    if code != 0 {
-        return ShiftAnswer::Refused(code);
-    }
+    ratio::refusal(n, spectra.len(), ratios.len())?;
     if bound > n / 2 {
-        return ShiftAnswer::Refused(8);
+        return Err(Refusal::BadBound);
     }
-    ratio::continual_metric(spectra, n, ratios);
+    ratio::write_ratios(spectra, n, ratios);
     let mut buffer = [0u32; 105];
     let bins = put_pattern(m, &mut buffer);
     let best = search(bins, ratios, bound);
     let shift = best.at as i64 - bound as i64;
     let score = best.sum / bins.len() as f32;
-    ShiftAnswer::Found(FoundShift { shift, score })
+    Ok(FoundShift { shift, score })
 }

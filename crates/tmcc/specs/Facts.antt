@@ -2,13 +2,15 @@
 -- lie in the segments that pass, in the same order; and a filter that no segment passes gives -0.0. An answer's number is the operation's code.
 -- Assumes nothing.
 use Prim.Native.Nat.{ℕ, suc, suc-le-suc, ◌+◌, ◌*◌, ◌/◌, ◌≤◌, ◌<◌}
-use Rattle.std.specs.Prelude.{Bool, true, false, cond, ◌&&◌, List, [], ◌∷◌, map, ◌≡◌, refl, eqb, leb, ltb, Float, get_or, length}
+use Rattle.std.specs.Prelude.{Bool, true, false, cond, ◌&&◌, List, [], ◌∷◌, map, ◌≡◌, refl, eqb, leb, ltb, Float, get_or, length, Option, Some, None}
 use Rattle.std.proofs.Math.Path.{sym, subst}
-use Rattle.std.proofs.Common.{ap, ◌∙◌, arith, eq-eqb, ne_eqb, le-leb, leb-true, ltb-true, lit<}
+use Rattle.std.proofs.Common.{ap, ◌∙◌, arith, eq-eqb, ne_eqb, le-leb, leb-true, ltb-true, lit<, lit≤}
 use Rattle.std.proofs.Math.Decide.{dec_lt}
 use Rattle.std.proofs.Math.Nat.{zero-add}
 use Rattle.std.proofs.Math.Arith.{digits_div}
-use Rattle.lists.specs.Refusals.{numbered}
+use Rattle.lists.specs.Refusals.{unless_most}
+use Rattle.params.specs.Laws.{answered_code}
+use Rattle.frame.specs.Operations.{are_kinds}
 use Rattle.ieee.specs.Constants.{minus_zero}
 use Rattle.ieee.specs.Sums.{total}
 use Rattle.lists.specs.Lists.{up_to, range, joined, select, chosen}
@@ -17,11 +19,9 @@ use Rattle.lists.specs.Select.{length_up_to, get_or_up_to, select_append}
 use Rattle.lists.specs.Tests.{memb, all_below, all_below_at, both_left, both_right}
 use Rattle.params.specs.declared.Mode.{Mode}
 use Rattle.params.specs.declared.Mode.TheVariants.{M1, M2, M3}
-use Rattle.params.specs.declared.ModeNumber.{ModeNumber}
-use Rattle.params.specs.declared.ModeNumber.TheVariants.{Known, Unknown}
 use Rattle.params.specs.declared.SegmentKind.{SegmentKind}
 use Rattle.params.specs.declared.SegmentKind.TheVariants.{Coherent, Differential}
-use Rattle.params.specs.Params.{carriers_per_segment, kind_from}
+use Rattle.params.specs.Params.{carriers_per_segment, kind_from, total_carriers, code_of}
 use Rattle.tables.specs.Places.{tmcc_of}
 use Rattle.tables.specs.Rule.{tmcc_below}
 use Rattle.ofdm.specs.Band.{segment_at, place_of}
@@ -31,15 +31,17 @@ use Rattle.frame.specs.declared.CarrierRole.TheVariants.{Tmcc}
 use Rattle.frame.specs.Rules.{place_has}
 use Rattle.frame.specs.OneRole.{place_has_lem}
 use Rattle.frame.specs.BySegment.{by_segment}
-use Rattle.tmcc.specs.Tmcc.{passes, place_tmcc, tmcc_carriers, soft_value, two_spectra_code, soft_code, soft_answer, soft_number}
-use Rattle.tmcc.specs.declared.SoftTmcc.TheVariants.{Refused}
+use Rattle.tmcc.specs.Tmcc.{passes, place_tmcc, tmcc_carriers, soft_value, two_spectra_code, soft_code, soft_answer}
 
 -- an answer's number is the number that refuses the call, and 0 where nothing does
-pub soft_number_lem : (mode : ModeNumber) (kinds : List ℕ) (xs : List Float) (filter : ℕ)
-    → soft_number (soft_answer mode kinds xs filter) ≡ soft_code mode kinds (length xs) filter
+pub soft_number_lem : (mode : Option Mode) (kinds : List ℕ) (xs : List Float) (filter : ℕ)
+    → code_of (soft_answer mode kinds xs filter) ≡ soft_code mode kinds (length xs) filter
 unfolding soft_answer soft_code two_spectra_code
-soft_number_lem Unknown kinds xs filter = refl
-soft_number_lem (Known m) kinds xs filter = numbered soft_number Refused (soft_code (Known m) kinds (length xs) filter) _ refl (λ k. refl)
+soft_number_lem None kinds xs filter = refl
+soft_number_lem (Some m) kinds xs filter =
+    answered_code (soft_code (Some m) kinds (length xs) filter) _
+    (unless_most (are_kinds kinds) 2 _ 11 (lit≤ tt)
+    (unless_most (eqb (length xs) (4 * total_carriers m)) 5 _ 11 (lit≤ tt) (unless_most (leb filter 2) 3 0 11 (lit≤ tt) (lit≤ tt))))
 
 -- a filter that no segment passes gives -0.0
 pub nothing_passes : (mode : Mode) (kinds : List ℕ) (filter : ℕ) (xs : List Float)

@@ -1,24 +1,22 @@
 -- The soft TMCC value (acquire.rs, `tmcc_soft`): over the TMCC carriers of the segments that a filter lets pass, the real parts of the products
 -- of a spectrum and the conjugate of the one before it, added from -0.0. Below zero it reads as bit 1.
 -- Definitions only.
-use Rattle.std.specs.Prelude.{ℕ, ◌+◌, ◌*◌, Bool, true, cond, List, [], map, ◌≡◌, eqb, leb, get_or, length, Float}
+use Rattle.params.specs.declared.Refusal.{Refusal}
+use Rattle.params.specs.declared.Refusal.TheVariants.{BadMode}
+use Rattle.std.specs.Prelude.{ℕ, ◌+◌, ◌*◌, Bool, true, cond, List, [], map, ◌≡◌, eqb, leb, get_or, length, Float, Option, Some, None, Result, Err}
 use Rattle.std.specs.Float.{binary32}
 use Rattle.ieee.specs.Constants.{minus_zero}
 use Rattle.ieee.specs.Sums.{total}
 use Rattle.lists.specs.Lists.{range, joined}
 use Rattle.lists.specs.Refusals.{unless}
 use Rattle.params.specs.declared.Mode.{Mode}
-use Rattle.params.specs.declared.ModeNumber.{ModeNumber}
-use Rattle.params.specs.declared.ModeNumber.TheVariants.{Known, Unknown}
 use Rattle.params.specs.declared.SegmentKind.{SegmentKind}
-use Rattle.params.specs.Params.{carriers_per_segment, total_carriers, kind_from, kind_code}
+use Rattle.params.specs.Params.{carriers_per_segment, total_carriers, kind_from, kind_code, code_of, answered}
 use Rattle.tables.specs.Places.{tmcc_of}
 use Rattle.ofdm.specs.Band.{segment_at}
 use Rattle.complex.specs.Complex.{product, conjugate}
 use Rattle.spectra.specs.Spectra.{pair_at}
 use Rattle.frame.specs.Operations.{are_kinds}
-use Rattle.tmcc.specs.declared.SoftTmcc.{SoftTmcc}
-use Rattle.tmcc.specs.declared.SoftTmcc.TheVariants.{Value, Refused}
 
 -- filter 0 lets coherent segments pass, 1 differential ones, 2 all
 abbrev pub passes : ℕ → SegmentKind → Bool
@@ -42,29 +40,18 @@ unfoldable pub soft_value : Mode → List ℕ → ℕ → List Float → Float
 soft_value mode kinds filter xs = total binary32 minus_zero (map (soft_term (total_carriers mode) xs) (tmcc_carriers mode kinds filter))
 
 -- what refuses two spectra of a layout, with later tests behind: 1; 2; 5 unless two spectra
-unfoldable pub two_spectra_code : ModeNumber → List ℕ → ℕ → ℕ → ℕ
-two_spectra_code Unknown kinds floats later = 1
-two_spectra_code (Known m) kinds floats later = unless (are_kinds kinds) 2 (unless (eqb floats (4 * total_carriers m)) 5 later)
+unfoldable pub two_spectra_code : Option Mode → List ℕ → ℕ → ℕ → ℕ
+two_spectra_code None kinds floats later = 1
+two_spectra_code (Some m) kinds floats later = unless (are_kinds kinds) 2 (unless (eqb floats (4 * total_carriers m)) 5 later)
 
 -- the same, then 3 for a filter other than 0, 1 or 2
-unfoldable pub soft_code : ModeNumber → List ℕ → ℕ → ℕ → ℕ
+unfoldable pub soft_code : Option Mode → List ℕ → ℕ → ℕ → ℕ
 soft_code mode kinds floats filter = two_spectra_code mode kinds floats (unless (leb filter 2) 3 0)
 
-unfoldable pub soft_answer : ModeNumber → List ℕ → List Float → ℕ → SoftTmcc
-soft_answer Unknown kinds xs filter = Refused 1
-soft_answer (Known m) kinds xs filter =
-    let code = soft_code (Known m) kinds (length xs) filter in
-    cond (eqb code 0) (Value (soft_value m kinds filter xs)) (Refused code)
+unfoldable pub soft_answer : Option Mode → List ℕ → List Float → ℕ → Result Float Refusal
+soft_answer None kinds xs filter = Err BadMode
+soft_answer (Some m) kinds xs filter = answered (soft_code (Some m) kinds (length xs) filter) (soft_value m kinds filter xs)
 
--- the answer's number in document 01, and the value that it gives, or what was lent
-abbrev pub soft_number : SoftTmcc → ℕ
-soft_number (Value v) = 0
-soft_number (Refused code) = code
-
-abbrev pub soft_given : SoftTmcc → Float → Float
-soft_given (Value v) lent = v
-soft_given (Refused code) lent = lent
-
-pub record SoftTold (mode : ModeNumber) (kinds : List ℕ) (xs : List Float) (filter : ℕ) (r : SoftTmcc) : Type 0 where
-  pub number : soft_number r ≡ soft_code mode kinds (length xs) filter
+pub record SoftTold (mode : Option Mode) (kinds : List ℕ) (xs : List Float) (filter : ℕ) (r : Result Float Refusal) : Type 0 where
+  pub number : code_of r ≡ soft_code mode kinds (length xs) filter
   pub answer : r ≡ soft_answer mode kinds xs filter

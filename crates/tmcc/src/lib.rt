@@ -3,28 +3,34 @@
 #![tactic(auto)]
 
 ghost use Rattle.std.specs.Prelude.{◌≡◌, ◌*◌, length};
-ghost use Rattle.params.specs.Params.{mode_from, total_carriers};
+ghost use Rattle.params.specs.Params.{mode_from, total_carriers, kind_codes};
 ghost use Rattle.tmcc.specs.Tmcc.{passes, soft_value, SoftTold};
-ghost use Rattle.tmcc.specs.Inner.{Addable, added_to};
+ghost use Rattle.tmcc.specs.Inner.{filter_number, FilterTold, Addable, added_to};
 
 use frame::FrameLayout;
 use ofdm::{BandPlace, SegmentPlace};
-use params::{Mode, SegmentKind};
+use params::{Mode, Refusal, SegmentKind};
 
-#[derive(Clone, Copy)]
-pub enum SoftTmcc {
-    Value(f32),
-    Refused(u8),
+// The kind of the segments that a filter lets pass, or none where it lets all pass: 0 coherent, 1
+// differential, 2 all.
+fn filter_of(number: u8) -> Result<Option<SegmentKind>, Refusal>
+    ensures { FilterTold number result }
+{
+    match number {
+        0 => Ok(Some(SegmentKind::Coherent)),
+        1 => Ok(Some(SegmentKind::Differential)),
+        2 => Ok(None),
+        _ => Err(Refusal::BadPhase),
+    }
 }
 
-// Whether a filter of 0, 1 or 2 lets a kind pass.
-fn passes(filter: u8, kind: SegmentKind) -> bool
-    ensures { result ≡ passes filter kind }
+fn passes(filter: Option<SegmentKind>, kind: SegmentKind) -> bool
+    ensures { result ≡ passes (filter_number filter) kind }
 {
-    if filter == 2 {
-        return true;
+    match filter {
+        None => true,
+        Some(only) => u8::from(only) == u8::from(kind),
     }
-    filter == kind.code()
 }
 
 // Adds the real parts of the products at places of the segment that has a place in the band. `spectra` are
@@ -39,16 +45,16 @@ fn add_places(start: f32, mode: Mode, place: BandPlace, places: &[u16], spectra:
         let k = ofdm::band_carrier(mode, place, SegmentPlace(*p as usize));
         let later = spectra::pair_at(spectra, len + k.0);
         let earlier = spectra::pair_at(spectra, k.0);
-        let product = later.mul(earlier.conj());
+        let product = later * earlier.conj();
         sum = sum + product.re;
     }
     sum
 }
 
 // The soft value of a layout.
-fn soft_value(layout: FrameLayout, spectra: &[f32], filter: u8) -> f32
+fn soft_value(layout: FrameLayout, spectra: &[f32], filter: Option<SegmentKind>) -> f32
     requires { length spectra.now ≡ 4 * total_carriers layout.mode }
-    ensures { result ≡ soft_value layout.mode layout.kinds filter spectra.now }
+    ensures { result ≡ soft_value layout.mode (kind_codes layout.kinds) (filter_number filter) spectra.now }
 {
     let mode = layout.mode;
     let mut sum = ieee::NEGATIVE_ZERO;
@@ -70,21 +76,13 @@ fn soft_value(layout: FrameLayout, spectra: &[f32], filter: u8) -> f32
 //
 // Refused by 1 for a bad mode, 2 unless there are thirteen kinds of 0 or 1, 5 unless two spectra, 3 for
 // another filter.
-pub fn tmcc_soft(mode: u8, kinds: &[u8], spectra: &[f32], filter: u8) -> SoftTmcc
+pub fn tmcc_soft(mode: u8, kinds: &[u8], spectra: &[f32], filter: u8) -> Result<f32, Refusal>
     ensures { SoftTold (mode_from mode) kinds.now spectra.now filter result }
 {
-    let new = FrameLayout::new(mode, kinds);
-    let code = new.code;
-    if code != 0 {
-        return SoftTmcc::Refused(code);
+    let layout = FrameLayout::new(mode, kinds)?;
+    if spectra.len() != 4 * layout.mode.total_carriers() {
+        return Err(Refusal::NotWhole);
     }
-    let layout = new.layout;
-    let m = layout.mode;
-    if spectra.len() != 4 * m.total_carriers() {
-        return SoftTmcc::Refused(5);
-    }
-    if filter > 2 {
-        return SoftTmcc::Refused(3);
-    }
-    SoftTmcc::Value(soft_value(layout, spectra, filter))
+    let filter = filter_of(filter)?;
+    Ok(soft_value(layout, spectra, filter))
 }

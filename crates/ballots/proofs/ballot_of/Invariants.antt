@@ -1,8 +1,8 @@
 -- `ballots::ballot_of` meets its contract: the best so far, and the phases ahead, come to the choice, and the symbol is heard where a phase has energy.
 -- Assumes nothing.
+use Rattle.params.specs.Params.{kind_codes}
 use Rattle.spectra.specs.Spectra.{pair_at}
 use Rattle.ballots.specs.Ballots.{has_energy, phase_metric, choice_of}
-use Rattle.frame.specs.Roles.{kind_codes}
 use Rattle.ballots.proofs.Chosen.{Ahead, SomeTo}
 use Rattle.ballots.proofs.ballot_of.Given as goal
 

@@ -3,9 +3,8 @@
 use Prim.Native.Nat.{ℕ}
 use mathlib.Core.Path.{◌≡◌, refl, sym, ap, ◌∙◌}
 use lib.ListN.{get_or}
-use Rattle.params.specs.Params.{kind_from}
+use Rattle.params.specs.Params.{kind_from, kind_codes}
 use Rattle.ofdm.specs.Band.{segment_at}
-use Rattle.frame.specs.Roles.{kind_codes}
 use Rattle.ballots.proofs.Metric.{begin, walkable, again_coherent, again_differential, some_energy, no_energy}
 use Rattle.ballots.proofs.phase_metric.Goals as goal
 use Rattle.ballots.proofs.phase_metric.Goals.{in-Coherent, in-Differential}

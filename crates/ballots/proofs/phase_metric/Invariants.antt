@@ -1,6 +1,6 @@
 -- `ballots::phase_metric` meets its contract: the run is over the pilots of the segments passed.
 -- Assumes nothing.
-use Rattle.frame.specs.Roles.{kind_codes}
+use Rattle.params.specs.Params.{kind_codes}
 use Rattle.ballots.proofs.Metric.{WalkedTo}
 use Rattle.ballots.proofs.phase_metric.Given as goal
 

@@ -1,6 +1,6 @@
 -- `carrier_lists::data_carriers` meets its contract: the buffer's first entries are the band's roles, and their parts are the segments'.
 -- Assumes nothing.
-use Rattle.frame.specs.Roles.{kind_codes}
+use Rattle.params.specs.Params.{kind_codes}
 use Rattle.carrier_lists.proofs.Buffered.{data_room, data_stored}
 use Rattle.carrier_lists.proofs.data_carriers.Goals as goal
 

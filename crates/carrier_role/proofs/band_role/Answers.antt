@@ -8,7 +8,7 @@ use borrow.Author.Tests.{ne_eqb}
 use lib.ListN.{get_or}
 use Rattle.params.specs.declared.Mode.{Mode}
 use Rattle.params.specs.declared.SegmentKind.{SegmentKind}
-use Rattle.params.specs.Params.{total_carriers, kind_from}
+use Rattle.params.specs.Params.{total_carriers, kind_from, kind_codes}
 use Rattle.params.specs.Laws.{sized}
 use Rattle.ofdm.specs.Band.{first_carrier, segment_at, band_place, segment_place}
 use Rattle.ofdm.specs.Laws.{in_band}
@@ -38,6 +38,6 @@ module _ (mode : Mode) (kinds : List ℕ) (phase k edge : ℕ) (inside : k < tot
 pub returns : goal.returns
 returns c =
     let a = c.args in
-    of_place a.layout.mode a.layout.kinds a.phase a.k.0 _ c.requires c.first_carrier-edge.ensures c.if-k-edge.false
+    of_place a.layout.mode (kind_codes a.layout.kinds) a.phase a.k.0 _ c.requires c.first_carrier-edge.ensures c.if-k-edge.false
     _ _ _ _ _ c.carrier_place-at.ensures.place c.segment_at_position-seg.ensures.0 c.carrier_place-at.ensures.p c.kind.ensures
     c.place_role.ensures

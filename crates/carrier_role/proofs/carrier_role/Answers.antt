@@ -2,22 +2,23 @@
 -- Assumes nothing.
 use Prim.Native.Nat.{◌≤◌}
 use native.Mathlib.Omega.{arith}
+use Rattle.std.proofs.lemmas.Result.{err_from_is_err_and}
 use Rattle.carrier_role.proofs.Answers.{refused_layout, refused_phase, refused_carrier, answered}
 use Rattle.carrier_role.proofs.carrier_role.Goals as goal
 
-pub returns-then-code-ne0 : goal.returns-then-code-ne0
-returns-then-code-ne0 c = refused_layout _ _ _ _ _ c.new-new.ensures _ _ c.if-code-ne0.true
+pub returns-in_err-layout : goal.returns-in_err-layout
+returns-in_err-layout c =
+    let p = err_from_is_err_and c.from_residual.result c.from_residual.ensures.1 in
+    rw (p.1, p.2) (refused_layout _ _ _ _ _ c.in_err-layout.ensures)
 
 pub returns-then-phase-gt3 : goal.returns-then-phase-gt3
-returns-then-phase-gt3 c =
-    refused_phase _ _ _ _ _ c.new-new.ensures _ _ c.if-code-ne0.false c.if-phase-gt3.true
+returns-then-phase-gt3 c = refused_phase _ _ _ c.in_ok-layout.ensures c.if-phase-gt3.true
 
-pub returns-then-k_total-carrier : goal.returns-then-k_total-carrier
-returns-then-k_total-carrier c =
+pub returns-then-total_carriers-k : goal.returns-then-total_carriers-k
+returns-then-total_carriers-k c =
     let in_phases : c.args.phase ≤ 3 = omega arith in
-    refused_carrier _ _ _ _ _ c.new-new.ensures _ _ c.if-code-ne0.false in_phases (rw c.total_carriers-k_total.ensures at c.if-k_total-carrier.true)
+    refused_carrier _ _ _ c.in_ok-layout.ensures in_phases (rw c.total_carriers.ensures at c.if-total_carriers-k.true)
 
 pub returns : goal.returns
 returns c =
-    answered _ _ _ _ _ c.new-new.ensures _ _ c.if-code-ne0.false c.if-phase-gt3.false _ (rw c.total_carriers-k_total.ensures at c.if-k_total-carrier.false)
-    c.band_role.ensures
+    answered _ _ _ c.in_ok-layout.ensures c.if-phase-gt3.false _ (rw c.total_carriers.ensures at c.if-total_carriers-k.false) c.band_role.ensures

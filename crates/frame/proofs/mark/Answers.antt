@@ -2,20 +2,18 @@
 -- Assumes nothing.
 use Prim.Native.Nat.{◌≤◌}
 use mathlib.Core.Path.{sym, ap, ◌∙◌}
-use lib.ListN.{length, length-set, drop_of_length-le}
+use lib.ListN.{length, drop_of_length-le}
 use Rattle.frame.specs.Inner.{marked}
 use Rattle.frame.proofs.Marked.{mark_one}
 use native.Mathlib.Omega.{arith}
 use Rattle.frame.proofs.mark.Goals as goal
 
 pub loop-place-preserved : goal.loop-place-preserved
-loop-place-preserved c =
-    let done = c.loop-place.invariant in
-    (simp length-set done.0, done.1 ∙ mark_one _ _ _ _ c.loop-place-test.true)
+loop-place-preserved c = c.loop-place.invariant ∙ mark_one _ _ _ _ c.loop-place-test.true
 
 pub returns : goal.returns
 unfolding marked
 returns c =
     let l = c.loop-place in
     let all : length c.args.row.now ≤ l.place-index = omega arith in
-    sym (l.invariant.1 ∙ ap (λ z. marked z c.args.role l.out) (drop_of_length-le _ all))
+    sym (l.invariant ∙ ap (λ z. marked z c.args.role l.out) (drop_of_length-le _ all))

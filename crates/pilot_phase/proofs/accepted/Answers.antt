@@ -1,7 +1,7 @@
 -- `pilot_phase::accepted` meets its contract: without pilots nothing is counted, and with them the counts tell the answer.
 -- Assumes nothing.
+use Rattle.params.specs.Params.{kind_codes}
 use mathlib.Core.Path.{sym, ◌∙◌}
-use Rattle.frame.specs.Roles.{kind_codes}
 use Rattle.pilot_phase.proofs.Answers.{few_counted, no_pilots, some_pilots_lem}
 use Rattle.pilot_phase.proofs.accepted.Goals as goal
 

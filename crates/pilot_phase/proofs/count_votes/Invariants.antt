@@ -1,6 +1,6 @@
 -- `pilot_phase::count_votes` meets its contract: the counts are those of the votes of the spectra passed, and of those that were heard.
 -- Assumes nothing.
-use Rattle.frame.specs.Roles.{kind_codes}
+use Rattle.params.specs.Params.{kind_codes}
 use Rattle.pilot_phase.proofs.Counting.{Counted}
 use Rattle.pilot_phase.proofs.count_votes.Given as goal
 

@@ -1,13 +1,15 @@
 -- `tmcc::soft_value` meets its contract: the terms of the segments so far are added up.
 -- Assumes nothing.
+use Rattle.params.specs.Params.{kind_codes}
 use mathlib.Core.Path.{◌≡◌}
 use native.Mathlib.Omega.{arith}
+use Rattle.tmcc.specs.Inner.{filter_number}
 use Rattle.tmcc.proofs.Segments.{addable, begin, skip, further, done}
 use Rattle.tmcc.proofs.soft_value.Goals as goal
 use Rattle.tmcc.proofs.soft_value.Goals.{then-passes, else-passes}
 
 pub loop-number-init : goal.loop-number-init
-loop-number-init c = begin c.args.layout.mode c.args.layout.kinds c.args.filter c.args.spectra.now
+loop-number-init c = begin c.args.layout.mode (kind_codes c.args.layout.kinds) (filter_number c.args.filter) c.args.spectra.now
 
 pub add_places-sum-requires : goal.add_places-sum-requires
 add_places-sum-requires c =

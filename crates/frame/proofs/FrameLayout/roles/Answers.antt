@@ -8,10 +8,10 @@ use Rattle.lists.specs.Lists.{joined}
 use Rattle.lists.specs.Fill.{joined_map}
 use Rattle.params.specs.declared.Mode.{Mode}
 use Rattle.params.specs.declared.SegmentKind.{SegmentKind}
-use Rattle.params.specs.Params.{kind_from}
+use Rattle.params.specs.Params.{kind_from, kind_codes}
 use Rattle.ofdm.specs.Band.{order, segment_at}
 use Rattle.frame.specs.declared.CarrierRole.TheVariants.{EdgeCp}
-use Rattle.frame.specs.Roles.{role_byte, ofdm_segment, segment_roles, band_roles, wide_segment, wide, kind_codes}
+use Rattle.frame.specs.Roles.{role_byte, ofdm_segment, segment_roles, band_roles, wide_segment, wide}
 use Rattle.ofdm.specs.Bands.{begin, part_ends, part_small, part_size, again, edge_inside, finish}
 use native.Mathlib.Omega.{arith}
 use Rattle.frame.proofs.FrameLayout.roles.Invariants.{roles_of}

@@ -5,8 +5,8 @@ use mathlib.Core.List.{List}
 use mathlib.Core.Path.{◌≡◌}
 use lib.ListN.{length}
 use Rattle.params.specs.declared.Mode.{Mode}
-use Rattle.params.specs.Params.{carriers_per_segment}
-use Rattle.frame.specs.Roles.{segment_roles, wide_segment, kind_codes}
+use Rattle.params.specs.Params.{carriers_per_segment, kind_codes}
+use Rattle.frame.specs.Roles.{segment_roles, wide_segment}
 use Rattle.frame.specs.OneRole.{segment_length}
 use Rattle.ofdm.specs.Bands.{WrittenTo}
 use Rattle.frame.proofs.FrameLayout.roles.Given as goal
