@@ -1,9 +1,12 @@
 -- The scattered pilots by place: a coherent segment has every twelfth carrier from 3 times the phase on, a differential one has none.
 -- Assumes nothing.
 use Prim.Native.Nat.{ℕ, zero, suc, suc-le-suc, ◌+◌, ◌*◌, ◌-◌, ◌/◌, ◌%◌, ◌<◌}
-use mathlib.Core.Bool.{Bool, true, false, cond}
+use mathlib.Core.Bool.{Bool, true, false, true≢false, cond}
+use Rattle.std.specs.List.{list_any}
+use Rattle.std.proofs.lemmas.List.Folds.{Any-from_list_any, list_any_at}
+use Rattle.frame.specs.Answers.{kind_again}
 use mathlib.Core.List.{List, [], ◌∷◌, ◌++◌, append-nil}
-use mathlib.Core.Path.{◌≡◌, refl, ap, ◌∙◌}
+use mathlib.Core.Path.{◌≡◌, refl, sym, ap, ◌∙◌}
 use native.Mathlib.Nat.{le_of_suc-le-suc, not-suc-le-zero}
 use native.Mathlib.Omega.{arith}
 use borrow.Author.Tests.{eqb-true, eqb-false, ne_eqb}
@@ -14,7 +17,7 @@ use Rattle.lists.specs.Select.{length_up_to}
 use Rattle.params.specs.declared.Mode.{Mode}
 use Rattle.params.specs.declared.SegmentKind.{SegmentKind}
 use Rattle.params.specs.declared.SegmentKind.TheVariants.{Coherent, Differential}
-use Rattle.params.specs.Params.{carriers_per_segment, kind_from}
+use Rattle.params.specs.Params.{carriers_per_segment, kind_from, kind_codes}
 use Rattle.params.specs.Laws.{sized}
 use Rattle.tables.specs.Places.{is_sp}
 use Rattle.ofdm.specs.Band.{order, place_of}
@@ -103,3 +106,27 @@ module _ (mode : Mode) (kinds : List ℕ) where
       let none : (i : ℕ) → i < length order → segment_pilots mode kinds 0 (get_or order i 0) ≡ [] =
       λ i l. let seg = get_or order i 0 in differential_pilots mode kinds 0 seg (h seg (segment_below i l)) in
       rw (pilots_by_segment mode kinds 0, joined_none (segment_pilots mode kinds 0) order none)
+
+-- so there are some where a kind passes a test that coherent kinds alone pass
+module _ (mode : Mode) (kinds : List SegmentKind) (test : SegmentKind → Bool) (yes : test Coherent ≡ true) (no : test Differential ≡ false) where
+  passes : (kind : SegmentKind) → test kind ≡ true → kind ≡ Coherent
+  passes Coherent e = refl
+  passes Differential e = absurd (true≢false (sym e ∙ no))
+
+  fails : (kind : SegmentKind) → test kind ≡ false → kind ≡ Differential
+  fails Coherent e = absurd (true≢false (sym yes ∙ e))
+  fails Differential e = refl
+
+  pub some_coherent : length kinds ≡ 13 → list_any test kinds ≡ some_pilots mode (kind_codes kinds)
+  some_coherent l = by (list_any test kinds) refl
+    where
+      by : (b : Bool) → list_any test kinds ≡ b → b ≡ some_pilots mode (kind_codes kinds)
+      by true e =
+          let a = Any-from_list_any test kinds e in
+          let here : get_or kinds a.0 Coherent ≡ Coherent = rw (passes a.1 a.4) at a.3 in
+          some_pilots_lem mode (kind_codes kinds) a.0 (omega (arith, a.2)) (sym (kind_again kinds a.0) ∙ here)
+      by false e = no_pilots mode (kind_codes kinds) (λ seg h. sym (kind_again kinds seg) ∙ fails (get_or kinds seg Coherent) (missed seg h _ refl))
+        where
+          missed : (seg : ℕ) → seg < 13 → (b : Bool) → test (get_or kinds seg Coherent) ≡ b → test (get_or kinds seg Coherent) ≡ false
+          missed seg h true t = absurd (true≢false (sym (list_any_at test kinds seg Coherent (omega arith) t) ∙ e))
+          missed seg h false t = t

@@ -5,11 +5,36 @@ use mathlib.Core.Bool.{Bool, true, false, cond, ◌||◌}
 use mathlib.Core.Path.{◌≡◌, refl}
 use native.Mathlib.Numerals.{add-one}
 use native.Mathlib.Omega.{arith}
-use lib.Ieee.{Float, lt}
-use Rattle.ballots.specs.Ballots.{Choice, choose_from}
+use lib.Ieee.{Float, binary32, lt}
+use Rattle.std.proofs.Common.{Option, Some, None}
+use Rattle.std.specs.Option.{unwrap_or, is_some}
+use mathlib.Core.List.{List}
+use Rattle.ieee.specs.Constants.{plus_zero}
+use Rattle.params.specs.declared.Mode.{Mode}
+use Rattle.complex.specs.Complex.{Pair}
+use Rattle.ballots.specs.Ballots.{has_energy, phase_metric, Choice, choose_from}
+use Rattle.ballots.specs.Inner.{coherence}
 
 abbrev so_far : ℕ → Float → Choice
 so_far best metric = record { phase = best; metric = metric }
+
+-- a phase is compared by its metric, which is 0.0 without energy
+pub compared : (mode : Mode) (kinds : List ℕ) (y : ℕ → Pair) (p : ℕ) {r : Option Float} → r ≡ coherence mode kinds y p
+    → unwrap_or r (plus_zero binary32) ≡ phase_metric mode kinds y p
+unfolding phase_metric
+compared mode kinds y p e = rw e (by (has_energy mode kinds y p) _)
+  where
+    by : (b : Bool) (x : Float) → unwrap_or (cond b (Some (cond b x (plus_zero binary32))) None) (plus_zero binary32) ≡ cond b x (plus_zero binary32)
+    by true x = refl
+    by false x = refl
+
+pub found : (mode : Mode) (kinds : List ℕ) (y : ℕ → Pair) (p : ℕ) {r : Option Float} → r ≡ coherence mode kinds y p
+    → is_some r ≡ has_energy mode kinds y p
+found mode kinds y p e = rw e (by (has_energy mode kinds y p) _)
+  where
+    by : (b : Bool) (x : Float) → is_some (cond b (Some x) None) ≡ b
+    by true x = refl
+    by false x = refl
 
 -- with the metrics f: the best before phase p, and the phases ahead, come to `all`
 pub record Ahead (f : ℕ → Float) (all best : ℕ) (metric : Float) (p : ℕ) : Type 0 where

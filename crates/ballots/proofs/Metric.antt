@@ -1,7 +1,8 @@
 -- A run over the band, segment by segment from the lowest place upward, and the metric that it comes to.
 -- Assumes nothing.
 use Prim.Native.Nat.{ℕ, ◌+◌, ◌*◌, ◌/◌, ◌≤◌, ◌<◌}
-use mathlib.Core.Bool.{true, false, true≢false}
+use mathlib.Core.Bool.{true, false}
+use Rattle.std.proofs.Common.{Some, None}
 use mathlib.Core.List.{List, [], ◌++◌, append-nil}
 use mathlib.Core.Path.{◌≡◌, refl, sym, ap, ◌∙◌}
 use native.Mathlib.Nat.{suc-mul}
@@ -26,21 +27,20 @@ use Rattle.prbs.specs.Signs.{band_signs}
 use Rattle.prbs.specs.Buffered.{signs_length}
 use Rattle.ballots.specs.declared.Run.{Run}
 use Rattle.ballots.specs.Ballots.{pilots, twelve_apart, pilot_pairs, product_sum, energy_sum, phase_metric}
-use Rattle.ballots.specs.Inner.{twelfths, Parted, Walked, Walkable, Walks, Spectrum, CoherenceOf}
+use Rattle.ballots.specs.Inner.{twelfths, Parted, Walked, Walkable, Walks, Spectrum, coherence}
 use Rattle.ballots.specs.Pilots.{twelves}
 use Rattle.ballots.proofs.BySegment.{segment_pilots, pilots_by_segment, coherent_pilots, differential_pilots}
 use Rattle.ballots.proofs.Walking.{walk_apart}
 
 -- no pilot yet
-none_yet : (mode : Mode) (y : ℕ → Pair) (next : ℕ) (r : Run) → r.joined ≡ false → of32 r.sum ≡ pair (plus_zero binary32) (plus_zero binary32)
+none_yet : (mode : Mode) (y : ℕ → Pair) (next : ℕ) (r : Run) → r.last ≡ None → of32 r.sum ≡ pair (plus_zero binary32) (plus_zero binary32)
     → r.energy ≡ plus_zero binary32 → Walked mode y [] next r
 unfolding twelve_apart product_sum energy_sum totals total
 none_yet mode y next r j s e =
     record {
       sum = s;
       energy = e;
-      kept = λ t. absurd (true≢false (sym t ∙ j));
-      apart = λ t n l. refl;
+      ends = rw j (λ n l. refl);
     }
 
 -- the pilots of the segments below place
@@ -58,7 +58,7 @@ pub record WalkedTo (mode : Mode) (kinds : List ℕ) (y : List Float) (phase c p
   pub walked : Walked mode (pair_at y) (before mode kinds phase place) (place * c + 3 * phase) run
 
 module _ {mode : Mode} {kinds : List ℕ} {y : List Float} {phase c : ℕ} where
-  pub begin : {run : Run} → c ≡ carriers_per_segment mode → run.joined ≡ false → of32 run.sum ≡ pair (plus_zero binary32) (plus_zero binary32)
+  pub begin : {run : Run} → c ≡ carriers_per_segment mode → run.last ≡ None → of32 run.sum ≡ pair (plus_zero binary32) (plus_zero binary32)
       → run.energy ≡ plus_zero binary32 → WalkedTo mode kinds y phase c 0 run
   begin {run} e j s g = record { carriers = e; passed = omega arith; walked = none_yet mode (pair_at y) (0 * c + 3 * phase) run j s g }
 
@@ -120,13 +120,9 @@ module _ {mode : Mode} {kinds : List ℕ} {y : List Float} {phase c : ℕ} where
       energy : run.energy ≡ energy_sum mode (pair_at y) ks
       energy = rw all at w.walked.energy
 
-      pub some_energy : lt (plus_zero binary32) run.energy ≡ true
-          → CoherenceOf mode kinds (pair_at y) phase (record { metric = div binary32 run.sum.re run.energy; has_energy = true })
+      pub some_energy : lt (plus_zero binary32) run.energy ≡ true → Some (div binary32 run.sum.re run.energy) ≡ coherence mode kinds (pair_at y) phase
       unfolding phase_metric
-      some_energy t =
-          record { metric = rw (sym energy, t) (ap (λ (z : Pair). div binary32 z.re run.energy) sum); energy = rw (sym energy, t) }
+      some_energy t = rw (sym energy, t) (ap (λ (z : Pair). Some (div binary32 z.re run.energy)) sum)
 
-      pub no_energy : lt (plus_zero binary32) run.energy ≡ false
-          → CoherenceOf mode kinds (pair_at y) phase (record { metric = plus_zero binary32; has_energy = false })
-      unfolding phase_metric
-      no_energy t = record { metric = rw (sym energy, t); energy = rw (sym energy, t) }
+      pub no_energy : lt (plus_zero binary32) run.energy ≡ false → None ≡ coherence mode kinds (pair_at y) phase
+      no_energy t = rw (sym energy, t)

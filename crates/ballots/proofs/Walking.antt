@@ -1,7 +1,7 @@
 -- A run over pilots: what a pilot more, or a gap, makes of it.
 -- Assumes nothing.
 use Prim.Native.Nat.{ℕ, ◌+◌, ◌*◌, ◌<◌}
-use mathlib.Core.Bool.{Bool, true, false, true≢false, cond}
+use mathlib.Core.Bool.{Bool, true, false, cond}
 use mathlib.Core.List.{List, [], ◌∷◌, ◌++◌, map, map-append, append_assoc, append-nil}
 use mathlib.Core.Path.{◌≡◌, refl, sym, ap, ◌∙◌}
 use native.Mathlib.Numerals.{add-one}
@@ -18,9 +18,11 @@ use Rattle.spectra.specs.Spectra.{pair_at}
 use Rattle.prbs.specs.Signs.{band_signs}
 use Rattle.pilots.specs.Pilots.{pilot_value}
 use Rattle.ballots.specs.declared.Pilot.{Pilot}
+use Rattle.ballots.specs.declared.Last.{Last}
 use Rattle.ballots.specs.declared.Run.{Run}
+use Rattle.std.proofs.Common.{Option, Some, None}
 use Rattle.ballots.specs.Ballots.{twelve_apart, times_pilot, pilot_product, pilot_energy, product_sum, energy_sum}
-use Rattle.ballots.specs.Inner.{twelfths, Parted, PilotAt, Joined, Walked, Walks}
+use Rattle.ballots.specs.Inner.{twelfths, Parted, PilotAt, Joined, Kept, Ends, Walked, Walks}
 
 -- ---- one entry more behind the last
 grown : (t : Bool) (x : ℕ) (us vs : List ℕ) → cond t (x ∷ (us ++ vs)) (us ++ vs) ≡ cond t (x ∷ us) us ++ vs
@@ -55,9 +57,9 @@ record Sums (mode : Mode) (y : ℕ → Pair) (ks : List ℕ) (r : Run) : Type 0 
   energy : r.energy ≡ energy_sum mode y (twelve_apart ks)
 
 module _ {mode : Mode} {y : ℕ → Pair} {ks : List ℕ} {next : ℕ} {s : Run} (w : Walked mode y ks next s) where
-  sums : {r : Run} (b : Bool) → s.joined ≡ b → Joined s (times_pilot mode y next) r → Sums mode y (ks ++ (next ∷ [])) r
-  sums true e j =
-      let k = w.kept e in
+  sums : {r : Run} (last : Option Last) → s.last ≡ last → Joined s (times_pilot mode y next) r → Sums mode y (ks ++ (next ∷ [])) r
+  sums (Some before) e j =
+      let k : Kept mode y ks next before = rw e at w.ends in
       let more : twelve_apart (ks ++ (next ∷ [])) ≡ twelve_apart ks ++ (k.last ∷ []) =
       behind ks k.earlier k.last next k.ends ∙ rw (eq-eqb next (k.last + 12) k.twelve) in
       record {
@@ -65,33 +67,31 @@ module _ {mode : Mode} {y : ℕ → Pair} {ks : List ℕ} {next : ℕ} {s : Run}
             (λ i. plus binary32 (w.sum i) (product binary32 (times_pilot mode y (k.twelve i)) (conjugate (k.value i))));
         energy = j.energy ∙ rw (e, more, energy_more mode y (twelve_apart ks) k.last, w.energy, k.norm, k.twelve);
       }
-  sums false e j =
-      let same = w.apart e next (omega arith) in
+  sums None e j =
+      let apart : Ends mode y ks next None = rw e at w.ends in
+      let same = apart next (omega arith) in
       record { sum = j.sum ∙ rw (e, same) w.sum; energy = j.energy ∙ rw (e, same) w.energy }
 
   pub walk_join : {r : Run} → Joined s (times_pilot mode y next) r → Walked mode y (ks ++ (next ∷ [])) (next + 12) r
   walk_join j =
-      let g = sums s.joined refl j in
+      let g = sums s.last refl j in
       record {
         sum = g.sum;
         energy = g.energy;
-        kept = λ e. record { earlier = ks; last = next; ends = refl; twelve = refl; value = j.value; norm = j.norm };
-        apart = λ e. absurd (true≢false (sym j.joined ∙ e));
+        ends = rw j.keeps (record { earlier = ks; last = next; ends = refl; twelve = refl; value = j.value; norm = j.norm });
       }
 
-  gap : (b : Bool) → s.joined ≡ b → (n : ℕ) → next < n → twelve_apart (ks ++ (n ∷ [])) ≡ twelve_apart ks
-  gap true e n h =
-      let k = w.kept e in
+  gap : (last : Option Last) → Ends mode y ks next last → (n : ℕ) → next < n → twelve_apart (ks ++ (n ∷ [])) ≡ twelve_apart ks
+  gap (Some before) k n h =
       behind ks k.earlier k.last n k.ends ∙ rw (ne_eqb n (k.last + 12) (λ q. omega (arith, k.twelve))) (append-nil (twelve_apart ks))
-  gap false e n h = w.apart e n (omega arith)
+  gap None apart n h = apart n (omega arith)
 
   pub walk_apart : {r : Run} {to : ℕ} → next < to → Parted s r → Walked mode y ks to r
   walk_apart h p =
       record {
         sum = ap of32 p.sum ∙ w.sum;
         energy = p.energy ∙ w.energy;
-        kept = λ e. absurd (true≢false (sym e ∙ p.joined));
-        apart = λ e n l. gap s.joined refl n (omega arith);
+        ends = rw p.last (λ n l. gap s.last w.ends n (omega arith));
       }
 
 -- ---- carriers 12 apart, one after another

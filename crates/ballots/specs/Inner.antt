@@ -1,6 +1,6 @@
 -- The words of the contracts inside this crate, and of the count that calls them.
 -- Definitions only.
-use Rattle.std.specs.Prelude.{ℕ, ◌+◌, ◌*◌, ◌≤◌, ◌<◌, Bool, true, false, cond, not, List, [], ◌∷◌, ◌++◌, ◌≡◌, eqb, get_or, length, Float}
+use Rattle.std.specs.Prelude.{ℕ, ◌+◌, ◌*◌, ◌≤◌, ◌<◌, Bool, cond, not, List, [], ◌∷◌, ◌++◌, ◌≡◌, eqb, get_or, length, Float, Option, Some, None}
 use Rattle.std.specs.Float.{binary32, binary64}
 use Rattle.std.specs.Float.Ieee.{add, mul}
 use Rattle.lists.specs.Lists.{up_to}
@@ -11,8 +11,8 @@ use Rattle.spectra.specs.Spectra.{pair_at}
 use Rattle.prbs.specs.Signs.{band_signs}
 use Rattle.pilots.specs.Pilots.{pilot_value}
 use Rattle.ballots.specs.declared.Pilot.{Pilot}
+use Rattle.ballots.specs.declared.Last.{Last}
 use Rattle.ballots.specs.declared.Run.{Run}
-use Rattle.ballots.specs.declared.Coherence.{Coherence}
 use Rattle.ballots.specs.Ballots.{pilots, twelve_apart, times_pilot, product_sum, energy_sum, has_energy, phase_metric}
 
 -- count carriers from the lowest on, 12 apart
@@ -21,7 +21,7 @@ twelfths lowest count = up_to (λ i. lowest + 12 * i) count
 
 -- the run s with the next pilot not 12 further on
 pub record Parted (s r : Run) : Type 0 where
-  pub joined : r.joined ≡ false
+  pub last : r.last ≡ None
   pub sum : r.sum ≡ s.sum
   pub energy : r.energy ≡ s.energy
 
@@ -34,16 +34,26 @@ pub record PilotAt (y : List Float) (signs : List ℕ) (k : ℕ) (p : Pilot) : T
   pub value : of32 p.value ≡ scaled binary32 (pair_at y k) (pilot_value (get_or signs k 0)).re
   pub sized : Sized p
 
+-- the sums with a pilot v more, behind the last
+abbrev pub sum_with : Option Last → Pair → Pair → Pair
+sum_with None v sum = sum
+sum_with (Some last) v sum = plus binary32 sum (product binary32 v (conjugate (of32 last.value)))
+
+abbrev pub energy_with : Option Last → Pair → Float → Float
+energy_with None v energy = energy
+energy_with (Some last) v energy = add binary32 energy (mul binary32 last.norm (norm32 v))
+
 -- the run s with a pilot v more
 pub record Joined (s : Run) (v : Pair) (r : Run) : Type 0 where
-  pub joined : r.joined ≡ true
-  pub value : of32 r.value ≡ v
-  pub norm : r.norm ≡ norm32 v
-  pub sum : of32 r.sum ≡ cond s.joined (plus binary32 (of32 s.sum) (product binary32 v (conjugate (of32 s.value)))) (of32 s.sum)
-  pub energy : r.energy ≡ cond s.joined (add binary32 s.energy (mul binary32 s.norm (norm32 v))) s.energy
+  pub last : Last
+  pub keeps : r.last ≡ Some last
+  pub value : of32 last.value ≡ v
+  pub norm : last.norm ≡ norm32 v
+  pub sum : of32 r.sum ≡ sum_with s.last v (of32 s.sum)
+  pub energy : r.energy ≡ energy_with s.last v s.energy
 
--- a run keeps the last of the pilots ks, 12 below the next
-pub record Kept (mode : Mode) (y : ℕ → Pair) (ks : List ℕ) (next : ℕ) (r : Run) : Type 0 where
+-- a pilot is the last of the pilots ks, 12 below the next
+pub record Kept (mode : Mode) (y : ℕ → Pair) (ks : List ℕ) (next : ℕ) (r : Last) : Type 0 where
   pub earlier : List ℕ
   pub last : ℕ
   pub ends : ks ≡ earlier ++ (last ∷ [])
@@ -51,12 +61,16 @@ pub record Kept (mode : Mode) (y : ℕ → Pair) (ks : List ℕ) (next : ℕ) (r
   pub value : of32 r.value ≡ times_pilot mode y last
   pub norm : r.norm ≡ norm32 (times_pilot mode y last)
 
--- a run over the pilots ks of the spectrum y, where the next is `next`, or above it if the run is not joined
+-- what a run keeps of the pilots ks: the last of them, or where it keeps none, that no pilot from the next on is 12 above one
+abbrev pub Ends : Mode → (ℕ → Pair) → List ℕ → ℕ → Option Last → Type 0
+Ends mode y ks next None = (n : ℕ) → next ≤ n → twelve_apart (ks ++ (n ∷ [])) ≡ twelve_apart ks
+Ends mode y ks next (Some last) = Kept mode y ks next last
+
+-- a run over the pilots ks of the spectrum y, where the next is `next`, or above it if the run keeps none
 pub record Walked (mode : Mode) (y : ℕ → Pair) (ks : List ℕ) (next : ℕ) (r : Run) : Type 0 where
   pub sum : of32 r.sum ≡ product_sum mode y (twelve_apart ks)
   pub energy : r.energy ≡ energy_sum mode y (twelve_apart ks)
-  pub kept : r.joined ≡ true → Kept mode y ks next r
-  pub apart : r.joined ≡ false → (n : ℕ) → next ≤ n → twelve_apart (ks ++ (n ∷ [])) ≡ twelve_apart ks
+  pub ends : Ends mode y ks next r.last
 
 -- count carriers from the lowest on, at least one, 12 apart, lie within a spectrum of n floats with m signs: the last is below m
 pub record Walkable (lowest count n m : ℕ) : Type 0 where
@@ -75,10 +89,9 @@ pub record Spectrum (mode : Mode) (n : ℕ) (signs : List ℕ) : Type 0 where
   pub floats : n ≡ 2 * total_carriers mode
   pub signed : signs ≡ band_signs mode
 
--- how coherent the pilots of a phase are in the spectrum y, and whether they have energy
-pub record CoherenceOf (mode : Mode) (kinds : List ℕ) (y : ℕ → Pair) (phase : ℕ) (r : Coherence) : Type 0 where
-  pub metric : r.metric ≡ phase_metric mode kinds y phase
-  pub energy : r.has_energy ≡ has_energy mode kinds y phase
+-- how coherent the pilots of a phase are in the spectrum y, if they have energy
+abbrev pub coherence : Mode → List ℕ → (ℕ → Pair) → ℕ → Option Float
+coherence mode kinds y phase = cond (has_energy mode kinds y phase) (Some (phase_metric mode kinds y phase)) None
 
 -- whether there are scattered pilots
 abbrev pub some_pilots : Mode → List ℕ → Bool

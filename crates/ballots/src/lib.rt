@@ -3,25 +3,31 @@
 // right phase alone.
 #![tactic(auto)]
 
+ghost use Rattle.params.specs.Params.{kind_codes};
 ghost use Rattle.std.specs.Prelude.{◌≡◌, ◌*◌, ◌≤◌, ◌<◌, length};
 ghost use Rattle.complex.specs.Complex.{of32};
 ghost use Rattle.spectra.specs.Spectra.{pair_at};
 ghost use Rattle.ballots.specs.Ballots.{ballot_of};
-ghost use Rattle.ballots.specs.Inner.{Parted, Sized, PilotAt, Joined, Walkable, Walks, Spectrum, CoherenceOf, some_pilots};
+ghost use Rattle.ballots.specs.Inner.{Parted, Sized, PilotAt, Joined, Walkable, Walks, Spectrum, coherence, some_pilots};
 
 use complex::C32;
 use frame::FrameLayout;
-use ofdm::{BandCarrier, BandPlace, Segment, SegmentPlace};
+use ofdm::{BandCarrier, BandPlace, SegmentPlace};
 use params::SegmentKind;
 
 const MINUS_ONE: f32 = -1.0;
 
-// Sums over pilots 12 carriers apart, and the last pilot with its norm, if the next is 12 further on.
+// A pilot that was passed: its carrier's pair times its value, and the norm of that.
 #[derive(Clone, Copy)]
-pub struct Run {
-    pub joined: bool,
+pub struct Last {
     pub value: C32,
     pub norm: f32,
+}
+
+// Sums over pilots 12 carriers apart, and the last pilot, if the next is 12 further on.
+#[derive(Clone, Copy)]
+pub struct Run {
+    pub last: Option<Last>,
     pub sum: C32,
     pub energy: f32,
 }
@@ -31,13 +37,6 @@ pub struct Run {
 pub struct Pilot {
     pub value: C32,
     pub square: f64,
-}
-
-// How coherent the pilots of a phase are, and whether they have energy.
-#[derive(Clone, Copy)]
-pub struct Coherence {
-    pub metric: f32,
-    pub has_energy: bool,
 }
 
 // What one symbol says of the phase.
@@ -54,15 +53,7 @@ impl Run {
     fn apart(self) -> Run
         ensures { Parted self result }
     {
-        let v = self.value;
-        let s = self.sum;
-        Run {
-            joined: false,
-            value: v,
-            norm: self.norm,
-            sum: s,
-            energy: self.energy,
-        }
+        Run { last: None, ..self }
     }
 
     // A pilot more.
@@ -70,27 +61,18 @@ impl Run {
         requires { Sized pilot }
         ensures { Joined self (of32 pilot.value) result }
     {
-        let v = pilot.value;
         let norm = root::narrow_root(pilot.square);
-        let s = self.sum;
-        if !self.joined {
-            return Run {
-                joined: true,
-                value: v,
-                norm: norm,
-                sum: s,
-                energy: self.energy,
-            };
-        }
-        let w = self.value;
-        let sum = s + v * w.conj();
-        let energy = self.energy + self.norm * norm;
-        Run {
-            joined: true,
-            value: v,
-            norm: norm,
-            sum: sum,
-            energy: energy,
+        let last = Some(Last {
+            value: pilot.value,
+            norm,
+        });
+        match self.last {
+            None => Run { last, ..self },
+            Some(before) => Run {
+                last,
+                sum: self.sum + pilot.value * before.value.conj(),
+                energy: self.energy + before.norm * norm,
+            },
         }
     }
 }
@@ -105,7 +87,7 @@ fn pilot_at(y: &[f32], signs: &[u8], carrier: BandCarrier) -> Pilot
     let pilot = pilots::pilot_value(signs[k]);
     let value = x.scale(pilot.re);
     Pilot {
-        value: value,
+        value,
         square: value.wide_norm_sqr(),
     }
 }
@@ -119,101 +101,72 @@ fn walk_segment(start: Run, y: &[f32], signs: &[u8], lowest: BandCarrier, count:
 {
     let mut run = start;
     let mut pilot = pilot_at(y, signs, lowest);
-    let mut k = lowest.0;
-    let last = count - 1;
-    let mut i: usize = 0;
-    while i < last {
-        k += 12;
-        let next = pilot_at(y, signs, BandCarrier(k));
+    for i in 1..count {
+        let next = pilot_at(y, signs, BandCarrier(lowest.0 + 12 * i));
         run = run.join(pilot);
         pilot = next;
-        i += 1;
     }
     run.join(pilot)
 }
 
-// How coherent the pilots of a phase are in the spectrum y, and whether they have energy: a NaN is not
-// above zero.
-fn phase_metric(layout: FrameLayout, y: &[f32], signs: &[u8], phase: u8) -> Coherence
+// How coherent the pilots of a phase are in the spectrum y, if they have energy: a NaN is not above zero.
+fn phase_metric(layout: FrameLayout, y: &[f32], signs: &[u8], phase: u8) -> Option<f32>
     requires { (phase < 4) × Spectrum layout.mode (length y.now) signs.now }
-    ensures { CoherenceOf layout.mode layout.kinds (pair_at y.now) phase result }
+    ensures { result ≡ coherence layout.mode (kind_codes layout.kinds) (pair_at y.now) phase }
 {
     let mode = layout.mode;
     let c = mode.carriers_per_segment();
     let mut run = Run {
-        joined: false,
-        value: C32::new(0.0, 0.0),
-        norm: 0.0,
+        last: None,
         sum: C32::new(0.0, 0.0),
         energy: 0.0,
     };
-    let mut place: usize = 0;
-    while place < 13 {
-        let seg = ofdm::segment_at_position(BandPlace(place));
-        match layout.kind(seg) {
+    for place in 0..13 {
+        let here = BandPlace(place);
+        match layout.kind(ofdm::segment_at_position(here)) {
             SegmentKind::Coherent => {
-                let low = 3 * phase as usize;
-                let lowest = ofdm::band_carrier(mode, BandPlace(place), SegmentPlace(low));
+                let lowest = ofdm::band_carrier(mode, here, SegmentPlace(3 * phase as usize));
                 run = walk_segment(run, y, signs, lowest, c / 12);
             }
             SegmentKind::Differential => {
                 run = run.apart();
             }
         }
-        place += 1;
     }
     if run.energy > 0.0 {
-        let sum = run.sum;
-        Coherence {
-            metric: sum.re / run.energy,
-            has_energy: true,
-        }
+        Some(run.sum.re / run.energy)
     } else {
-        Coherence {
-            metric: 0.0,
-            has_energy: false,
-        }
+        None
     }
 }
 
 // The ballot of the spectrum y: the first phase with the greatest metric, and whether any has energy.
 pub fn ballot_of(layout: FrameLayout, y: &[f32], signs: &[u8]) -> Ballot
     requires { Spectrum layout.mode (length y.now) signs.now }
-    ensures { result ≡ ballot_of layout.mode layout.kinds (pair_at y.now) }
+    ensures { result ≡ ballot_of layout.mode (kind_codes layout.kinds) (pair_at y.now) }
 {
     let mut best: u8 = 0;
     let mut metric = MINUS_ONE;
     let mut heard = false;
-    let mut phase: u8 = 0;
-    while phase < 4 {
-        let m = phase_metric(layout, y, signs, phase);
-        if m.metric > metric {
+    for phase in 0..4 {
+        let found = phase_metric(layout, y, signs, phase);
+        // A phase without energy is compared by 0.0.
+        let m = found.unwrap_or(0.0);
+        if m > metric {
             best = phase;
-            metric = m.metric;
+            metric = m;
         }
-        heard = heard | m.has_energy;
-        phase += 1;
+        heard = heard | found.is_some();
     }
     Ballot {
         choice: best,
-        heard: heard,
+        heard,
     }
 }
 
 // Whether a segment is coherent, and so has scattered pilots.
 pub fn has_pilots(layout: FrameLayout) -> bool
-    ensures { result ≡ some_pilots layout.mode layout.kinds }
+    ensures { result ≡ some_pilots layout.mode (kind_codes layout.kinds) }
 {
-    let mut seg: usize = 0;
-    while seg < 13 {
-        match layout.kind(Segment(seg)) {
-            SegmentKind::Coherent => {
-                return true;
-            }
-            SegmentKind::Differential => {
-                seg += 1;
-            }
-        }
-    }
-    false
+    layout.kinds.contains(&SegmentKind::Coherent)
 }

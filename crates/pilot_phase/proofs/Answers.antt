@@ -1,42 +1,34 @@
 -- What the tests on the way to a return make of the definition of `detect_sp_phase`.
 -- Assumes nothing.
-use Rattle.std.proofs.Common.{Option, Some, None}
-use Prim.Native.Nat.{ℕ, ◌*◌, ◌/◌, ◌%◌, ◌≤◌, ◌<◌}
-use mathlib.Core.Bool.{true, false, ◌&&◌}
+use Rattle.std.proofs.Common.{Option, None, Result, Ok, Err}
+use Prim.Native.Nat.{ℕ, ◌*◌, ◌/◌, ◌≤◌}
+use mathlib.Core.Bool.{true, false}
 use mathlib.Core.List.{List}
 use mathlib.Core.Path.{◌≡◌, refl, sym, ap, ◌∙◌}
-use native.Mathlib.Decide.{ℕ_discrete}
 use native.Mathlib.Omega.{arith}
-use borrow.Author.Tests.{eq-eqb, ne_eqb, eqb-true, leb-true, le-leb, lt-leb, not-false, not-true}
-use lib.Dec.{eqb, leb, lit<}
+use borrow.Author.Tests.{eqb-true, leb-true, not-false, not-true}
+use lib.Dec.{eqb}
 use lib.ListN.{length, get_or}
 use lib.Ieee.{Float}
-use Rattle.lists.specs.Refusals.{passed}
 use Rattle.lists.specs.Tests.{both_left, both_right}
 use Rattle.params.specs.declared.Mode.{Mode}
-use Rattle.params.specs.Params.{total_carriers}
-use Rattle.spectra.specs.Spectra.{spectra_in}
-use Rattle.frame.specs.Inner.{AcceptedLayout}
-use Rattle.frame.specs.Answers.{kinds_good, by_refusal}
+use Rattle.params.specs.declared.Refusal.{Refusal}
+use Rattle.params.specs.declared.Refusal.TheVariants.{NotWhole}
+use Rattle.params.specs.Params.{total_carriers, code_of, kind_codes}
+use Rattle.spectra.specs.Spectra.{are_spectra}
+use Rattle.frame.specs.declared.FrameLayout.{FrameLayout}
+use Rattle.frame.specs.Inner.{Accepted, RefusedLayout}
+use Rattle.frame.specs.Answers.{by_refusal}
 use Rattle.ballots.specs.Ballots.{pilots, ballots}
 use Rattle.ballots.specs.Facts.{ballots_length}
 use Rattle.ballots.specs.Inner.{some_pilots}
-use Rattle.winner.specs.Winner.{share_of, lead_of}
-use Rattle.winner.specs.Inner.{Won}
-use Rattle.pilot_phase.specs.declared.PilotPhase.TheVariants.{NoScatteredPilots, Phase}
-use Rattle.pilot_phase.specs.declared.PhaseAnswer.TheVariants.{Detected, Refused}
 use Rattle.pilot_phase.specs.declared.PilotAnswer.{PilotAnswer}
 use Rattle.pilot_phase.specs.declared.VoteCounts.{VoteCounts}
-use Rattle.pilot_phase.specs.PilotPhase.{votes, count_of, phase_of}
-use Rattle.pilot_phase.specs.PilotPhase.{phase_code, detected, phase_answer, counts_answer, lead_answer, phase_number, PhaseDetected}
-use Rattle.pilot_phase.specs.Inner.{Whole, VoteCountsOf, Counted, length_code, Nothing, Told, accepted_counts, Accepted}
+use Rattle.pilot_phase.specs.PilotPhase.{votes, count_of, phase_of, no_counts}
+use Rattle.pilot_phase.specs.PilotPhase.{phase_code, detected, phase_answer, counts_answer, lead_answer, phase_in, PhaseDetected}
+use Rattle.pilot_phase.specs.Inner.{Whole, VoteCountsOf, Counted, told, accepted_counts, pilot_answer}
 use Rattle.pilot_phase.specs.Facts.{phase_number_lem, counts_at}
 use Rattle.pilot_phase.proofs.Counting.{votes_few}
-
--- ---- what counts tell
-pub told : {counts : VoteCounts} {n won : ℕ} {share : Float} {lead : ℕ} → Won counts.all won → share ≡ share_of (get_or counts.all won 0) n
-    → lead ≡ lead_of counts.heard → Told counts n (record { answer = Detected (Phase won share); counts = counts.all; lead = lead })
-told v s l = record { answer = rw (s, v.won); same = refl; lead = l }
 
 -- ---- an accepted call
 module _ (m : Mode) (kinds : List ℕ) (xs : List Float) where
@@ -52,86 +44,48 @@ module _ (m : Mode) (kinds : List ℕ) (xs : List Float) where
             record { votes = omega (arith, n, votes_few m kinds xs p, w.few); spectra = total };
       }
 
-  pub no_pilots : {r : PilotAnswer} → some_pilots m kinds ≡ false → Nothing (Detected NoScatteredPilots) r → Accepted m kinds xs r
+  pub no_pilots : some_pilots m kinds ≡ false → record { phase = None; counts = no_counts; lead = 0 } ≡ pilot_answer m kinds xs
   unfolding detected accepted_counts
-  no_pilots p n =
-      let none : eqb (length (pilots m kinds 0)) 0 ≡ true = not-false _ p in
-      record { answer = n.same ∙ rw none; counts = n.counts ∙ rw none; lead = n.lead ∙ rw none }
+  no_pilots p = let none : eqb (length (pilots m kinds 0)) 0 ≡ true = not-false _ p in rw none
 
-  pub some_pilots_lem : {r : PilotAnswer} {counts : VoteCounts} {k : ℕ} → some_pilots m kinds ≡ true → k ≡ total_carriers m
-      → VoteCountsOf (ballots m kinds xs) counts → Told counts (length xs / (2 * k)) r → Accepted m kinds xs r
+  pub some_pilots_lem : {counts : VoteCounts} {k : ℕ} → some_pilots m kinds ≡ true → k ≡ total_carriers m
+      → VoteCountsOf (ballots m kinds xs) counts → told counts (length xs / (2 * k)) ≡ pilot_answer m kinds xs
   unfolding detected accepted_counts phase_of
-  some_pilots_lem {r} {counts} {k} p e c t =
+  some_pilots_lem {counts} {k} p e c =
       let some : eqb (length (pilots m kinds 0)) 0 ≡ false = not-true _ p in
       let n : length xs / (2 * k) ≡ length (ballots m kinds xs) = rw e (sym (ballots_length m kinds xs)) in
-      record { answer = t.answer ∙ rw (some, c.all, n); counts = t.same ∙ rw some c.all; lead = t.lead ∙ rw (some, c.heard) }
+      rw (some, n, c.all, c.heard)
 
--- ---- the number that refuses a call, by the tests; code is the layout's, and k the carriers of a spectrum
-module _ (code : ℕ) (m : Mode) (n : ℕ) where
-  pub layout_first : (code ≡ 0 → ⊥) → code ≡ length_code code m n
-  layout_first h = rw (ne_eqb code 0 h)
+-- ---- what an answer makes
+made : (number : Option Mode) (kinds : List ℕ) (xs : List Float) (r : Result PilotAnswer Refusal) → phase_in r ≡ phase_answer number kinds xs
+    → code_of r ≡ phase_code number kinds (length xs)
+made number kinds xs (Ok answer) a = ap code_of a ∙ phase_number_lem number kinds xs
+made number kinds xs (Err refusal) a = ap code_of a ∙ phase_number_lem number kinds xs
 
-  module _ (z : code ≡ 0) {k : ℕ} (sizes : k ≡ total_carriers m) where
-    pub bad_length : (n % (2 * k) ≡ 0 → ⊥) → 5 ≡ length_code code m n
-    bad_length h = rw (z, ← sizes, ne_eqb (n % (2 * k)) 0 h)
+-- the floats of an accepted call are whole spectra
+pub whole : (m : Mode) (n : ℕ) → are_spectra (total_carriers m) n ≡ true → Whole m n
+whole m n e = record { whole = eqb-true _ _ (both_left _ _ e); few = leb-true _ _ (both_right _ _ e) }
 
-    module _ (w : n % (2 * k) ≡ 0) where
-      pub too_many : 1024 < n / (2 * k) → 5 ≡ length_code code m n
-      too_many h = rw (z, ← sizes, eq-eqb (n % (2 * k)) 0 w, lt-leb (n / (2 * k)) 1024 h)
+module _ (kinds : List ℕ) (xs : List Float) where
+  pub refused_layout : (number : Option Mode) (refusal : Refusal) → RefusedLayout number kinds refusal → PhaseDetected number kinds xs (Err refusal)
+  unfolding phase_code phase_answer counts_answer lead_answer
+  refused_layout =
+      by_refusal kinds (λ n r. PhaseDetected n kinds xs (Err r)) (record { number = refl; answer = refl; counts = refl; lead = refl })
+      (λ m g. record { number = rw g; answer = rw g; counts = rw g; lead = rw g })
 
-      pub none_refused : n / (2 * k) ≤ 1024 → 0 ≡ length_code code m n
-      none_refused h = rw (z, ← sizes, eq-eqb (n % (2 * k)) 0 w, le-leb (n / (2 * k)) 1024 h)
+  module _ {number : Option Mode} {layout : FrameLayout} (a : Accepted number kinds layout) where
+    pub refused_length : are_spectra (total_carriers layout.mode) (length xs) ≡ false → PhaseDetected number kinds xs (Err NotWhole)
+    unfolding phase_code phase_answer counts_answer lead_answer
+    refused_length e =
+        record { number = rw (a.known, a.good, e); answer = rw (a.known, a.good, e); counts = rw (a.known, a.good, e); lead = rw (a.known, a.good, e) }
 
--- ---- what an answer, counts and a lead make
-made : (number : Option Mode) (kinds : List ℕ) (xs : List Float) {r : PilotAnswer} → r.answer ≡ phase_answer number kinds xs
-    → r.counts ≡ counts_answer number kinds xs → r.lead ≡ lead_answer number kinds xs → PhaseDetected number kinds xs r
-made number kinds xs a c l = record { number = ap phase_number a ∙ phase_number_lem number kinds xs; answer = a; counts = c; lead = l }
-
--- ---- a refused call, in which nothing was counted
-refused_by : (number : Option Mode) (kinds : List ℕ) (xs : List Float) {n : ℕ} {r : PilotAnswer} → n ≡ phase_code number kinds (length xs)
-    → (n ≡ 0 → ⊥) → Nothing (Refused n) r → PhaseDetected number kinds xs r
-unfolding phase_code counts_answer phase_answer lead_answer
-refused_by None kinds xs e h a = made None kinds xs (a.same ∙ ap Refused e) a.counts a.lead
-refused_by (Some m) kinds xs {n} e h a =
-    let no : eqb (phase_code (Some m) kinds (length xs)) 0 ≡ false = ap (λ (z : ℕ). eqb z 0) (sym e) ∙ ne_eqb n 0 h in
-    made (Some m) kinds xs (a.same ∙ rw no (ap Refused e)) (a.counts ∙ rw no) (a.lead ∙ rw no)
-
--- ---- the layout's number and the length's are the operation's
-module _ {number : Option Mode} {kinds : List ℕ} (xs : List Float) {code : ℕ} {m : Mode} {read : List ℕ} (a : AcceptedLayout number kinds code m read)
-    {n : ℕ} (e : n ≡ length_code code m (length xs)) where
-  code_is : n ≡ phase_code number kinds (length xs)
-  unfolding phase_code
-  code_is = e ∙ by (ℕ_discrete code 0)
-    where
-      by : Dec (code ≡ 0) → length_code code m (length xs) ≡ phase_code number kinds (length xs)
-      by (yes z) = rw (z, a.known z, kinds_good number kinds code m read a z)
-      by (no h) =
-          rw (ne_eqb code 0 h) (by_refusal number kinds code m read a (λ k c. c ≡ phase_code k kinds (length xs)) refl (λ k g. rw g) h)
-
-  pub refused : {r : PilotAnswer} → (n ≡ 0 → ⊥) → Nothing (Refused n) r → PhaseDetected number kinds xs r
-  refused h r = refused_by number kinds xs code_is h r
-
-  module _ (z : n ≡ 0) where
-    -- so the layout was accepted, and the length
-    both : (code ≡ 0) × Whole m (length xs)
-    both = by (ℕ_discrete code 0)
-      where
-        by : Dec (code ≡ 0) → (code ≡ 0) × Whole m (length xs)
-        by (yes c) =
-            let whole = eqb (length xs % (2 * total_carriers m)) 0 in
-            let few = leb (spectra_in (total_carriers m) (length xs)) 1024 in
-            let p = passed (whole && few) 5 0 (lit< tt) (rw c at (sym e ∙ z)) in
-            (c, record { whole = eqb-true _ _ (both_left whole few p.first); few = leb-true _ _ (both_right whole few p.first) })
-        by (no h) = absurd (h (sym (rw (ne_eqb code 0 h)) ∙ sym e ∙ z))
-
-    pub whole : Whole m (length xs)
-    whole = both.1
-
-    pub accepted : {r : PilotAnswer} → Accepted m read xs r → PhaseDetected number kinds xs r
-    unfolding counts_answer phase_answer lead_answer accepted_counts
-    accepted r =
-        let c = both.0 in
-        let known = a.known c in
-        let ok : eqb (phase_code (Some m) kinds (length xs)) 0 ≡ true = eq-eqb _ 0 (rw known at (sym code_is ∙ z)) in
-        let s = rw (a.same c) at r in
-        rw known (made (Some m) kinds xs (s.answer ∙ rw ok) (s.counts ∙ rw ok) (s.lead ∙ rw ok))
+    pub accepted : are_spectra (total_carriers layout.mode) (length xs) ≡ true
+        → {answer : PilotAnswer} → answer ≡ pilot_answer layout.mode (kind_codes layout.kinds) xs → PhaseDetected number kinds xs (Ok answer)
+    unfolding phase_code phase_answer counts_answer lead_answer accepted_counts
+    accepted e r =
+        record {
+          number = rw (a.known, a.good, e);
+          answer = rw (r, a.same, a.known, a.good, e);
+          counts = rw (r, a.same, a.known, a.good, e);
+          lead = rw (r, a.same, a.known, a.good, e);
+        }

@@ -1,15 +1,16 @@
 -- What `count_votes` keeps: the counts of the votes of the spectra passed, and of those among them that were heard.
 -- Assumes nothing.
-use Prim.Native.Nat.{ℕ, ◌+◌, ◌*◌, ◌-◌, ◌≤◌, ◌<◌}
+use Prim.Native.Nat.{ℕ, ◌+◌, ◌*◌, ◌-◌, ◌/◌, ◌≤◌, ◌<◌}
 use mathlib.Core.Bool.{Bool, true, false, cond}
 use mathlib.Core.List.{List, [], ◌∷◌, ◌++◌, append-nil}
 use mathlib.Core.Path.{◌≡◌, refl, sym, ◌∙◌}
-use native.Mathlib.Decide.{dec_lt, ℕ_discrete}
-use native.Mathlib.Nat.{le_of_eq, div-add-mod', mul-le-mul_right, lt_of_mul-lt-mul_right, suc-mul, zero-mul, add-zero, mul_left_comm}
+use native.Mathlib.Decide.{ℕ_discrete}
+use native.Mathlib.Nat.{le_of_eq, div-add-mod', mul-le-mul_right, suc-mul, add-zero, mul_left_comm}
 use native.Mathlib.Numerals.{add-one}
 use native.Mathlib.Omega.{arith}
 use borrow.Author.Tests.{eq-eqb, ne_eqb}
 use mir.Val.{bool_byte}
+use Rattle.std.proofs.Common.{Fits, w32}
 use lib.Dec.{eqb}
 use lib.ListN.{length, get_or, take, drop, set, length-set, length-drop}
 use lib.Seq.{get_or-set_same, get_or-set_other, set-get_or, ext_get_or, length-take-le, get_or-take, get_or-drop}
@@ -89,93 +90,84 @@ heard_votes_to mode kinds xs j = heard_votes_from 0 (up_to (ballot_at mode kinds
 heard_votes_few : (mode : Mode) (kinds : List ℕ) (xs : List Float) (j : ℕ) → length (heard_votes_to mode kinds xs j) ≤ j
 heard_votes_few mode kinds xs j = omega (arith, heard_few 0 (up_to (ballot_at mode kinds xs) j), length_up_to (ballot_at mode kinds xs) j)
 
--- both are counted, and spectrum j starts at from; w is the code's count of a spectrum's floats
-pub record Counted (mode : Mode) (kinds : List ℕ) (xs : List Float) (w : ℕ) (all heard : List ℕ) (from j : ℕ) : Type 0 where
-  pub floats : w ≡ 2 * total_carriers mode
-  pub start : from ≡ j * w
-  pub passed : j ≤ spectra_here mode xs
+-- both are counted
+pub record Counted (mode : Mode) (kinds : List ℕ) (xs : List Float) (all heard : List ℕ) (j : ℕ) : Type 0 where
   pub counted : all ≡ counts_of (votes_to mode kinds xs j)
   pub listened : heard ≡ counts_of (heard_votes_to mode kinds xs j)
 
-module _ {mode : Mode} {kinds : List ℕ} {xs : List Float} {w : ℕ} where
-  pub begin : w ≡ 2 * total_carriers mode → Counted mode kinds xs w (0 ∷ 0 ∷ 0 ∷ 0 ∷ []) (0 ∷ 0 ∷ 0 ∷ 0 ∷ []) 0 0
-  unfolding counts_of count_of votes_from heard_votes_from
-  begin e = record { floats = e; start = sym (zero-mul w); passed = omega arith; counted = refl; listened = refl }
+pub begin : {mode : Mode} {kinds : List ℕ} {xs : List Float} → Counted mode kinds xs (0 ∷ 0 ∷ 0 ∷ 0 ∷ []) (0 ∷ 0 ∷ 0 ∷ 0 ∷ []) 0
+unfolding counts_of count_of votes_from heard_votes_from
+begin = record { counted = refl; listened = refl }
 
-  module _ {signs : List ℕ} (p : Votable mode (length xs) signs) {all heard : List ℕ} {from j : ℕ} (c : Counted mode kinds xs w all heard from j) where
-    whole : length xs ≡ spectra_here mode xs * w
-    whole = rw c.floats (omega (arith, div-add-mod' (length xs) (2 * total_carriers mode), p.spectra.whole))
+-- w is the code's count of a spectrum's floats
+module _ (xs : List Float) {mode : Mode} {w : ℕ} (floats : w ≡ 2 * total_carriers mode) {signs : List ℕ} (p : Votable mode (length xs) signs)
+    {j : ℕ} (h : j < length xs / w) where
+  inside : j < spectra_here mode xs
+  inside = rw floats at h
 
-    -- spectrum j ends within the floats
-    room : j < spectra_here mode xs → from + w ≤ length xs
-    room l = let e : j * w + w ≤ spectra_here mode xs * w = rw (suc-mul j w) at (mul-le-mul_right w l) in omega (arith, c.start, whole)
+  whole : length xs ≡ spectra_here mode xs * w
+  whole = rw floats (omega (arith, div-add-mod' (length xs) (2 * total_carriers mode), p.spectra.whole))
 
-    module _ (h : from < length xs) where
-      inside : j < spectra_here mode xs
-      inside = lt_of_mul-lt-mul_right w (omega (arith, c.start, whole))
+  -- spectrum j ends within the floats
+  pub within : (j * w + w ≤ length xs) × (length xs ≤ 11503616) × (j < 1024)
+  within =
+      let f = mul-le-mul_right w p.spectra.few in
+      let room : j * w + w ≤ spectra_here mode xs * w = rw (suc-mul j w) at (mul-le-mul_right w inside) in
+      (omega (arith, room, whole), omega (arith, whole, f, floats, (sized mode).band_high), omega (arith, inside, p.spectra.few))
 
-      pub within : (from + w ≤ length xs) × (length xs ≤ 11503616) × (j < 1024) × (0 < w)
-      within =
-          let f = mul-le-mul_right w p.spectra.few in
-          let floats = c.floats in
-          (room inside, omega (arith, whole, (sized mode).band_high), omega (arith, inside, p.spectra.few), omega (arith, (sized mode).band))
+  abbrev part : List Float
+  part = take (j * w + w - j * w) (drop (j * w) xs)
 
-      abbrev part : List Float
-      part = take (from + w - from) (drop from xs)
+  width : j * w + w - j * w ≡ w
+  width = omega arith
 
-      width : from + w - from ≡ w
-      width = omega arith
+  pub spectrum : Spectrum mode (length part) signs
+  spectrum =
+      let size : length part ≡ w = rw width (length-take-le w (drop (j * w) xs) (rw (length-drop (j * w) xs) (omega (arith, within)))) in
+      record { floats = size ∙ floats; signed = p.signed }
 
-      pub spectrum : Spectrum mode (length part) signs
-      spectrum =
-          let size : length part ≡ w = rw width (length-take-le w (drop from xs) (rw (length-drop from xs) (omega (arith, room inside)))) in
-          record { floats = size ∙ c.floats; signed = p.signed }
+  float_at : (i : ℕ) → i < w → get_or part i nan ≡ get_or xs (j * w + i) nan
+  float_at i l = rw (width, get_or-take w (drop (j * w) xs) i nan l, get_or-drop (j * w) xs i nan)
 
-      float_at : (i : ℕ) → i < w → get_or part i nan ≡ get_or xs (from + i) nan
-      float_at i l = rw (width, get_or-take w (drop from xs) i nan l, get_or-drop from xs i nan)
+  part_at : (k : ℕ) → k < total_carriers mode → pair_at part k ≡ spectrum_at (total_carriers mode) xs j k
+  part_at k l =
+      let e : j * w ≡ 2 * (j * total_carriers mode) = rw floats (mul_left_comm j 2 (total_carriers mode)) in
+      let re : j * w + 2 * k ≡ 2 * (j * total_carriers mode + k) = omega arith in
+      let im : j * w + (2 * k + 1) ≡ 2 * (j * total_carriers mode + k) + 1 = omega arith in
+      rw (float_at (2 * k) (omega (arith, floats)), float_at (2 * k + 1) (omega (arith, floats)), re, im)
 
-      part_at : (k : ℕ) → k < total_carriers mode → pair_at part k ≡ spectrum_at (total_carriers mode) xs j k
-      part_at k l =
-          let e : from ≡ 2 * (j * total_carriers mode) = c.start ∙ rw c.floats (mul_left_comm j 2 (total_carriers mode)) in
-          let re : from + 2 * k ≡ 2 * (j * total_carriers mode + k) = omega arith in
-          let im : from + (2 * k + 1) ≡ 2 * (j * total_carriers mode + k) + 1 = omega arith in
-          rw (float_at (2 * k) (omega (arith, c.floats)), float_at (2 * k + 1) (omega (arith, c.floats)), re, im)
+  module _ {kinds : List ℕ} {all heard : List ℕ} (c : Counted mode kinds xs all heard j) where
+    -- the counts of no more votes than symbols passed are few
+    few : {counts : List ℕ} (vs : List ℕ) → counts ≡ counts_of vs → length vs ≤ j → (v : ℕ) → v < 4 → get_or counts v 0 < 1024
+    few {counts} vs q l v h =
+        let n : get_or counts v 0 ≡ count_of vs v = rw q (counts_at vs v h) in
+        omega (arith, n, count_few vs v, within)
 
-      module _ {b : Ballot} (e : b ≡ ballot_of mode kinds (pair_at part)) where
-        cast : b ≡ ballot_at mode kinds xs j
-        cast = e ∙ ballot_alike mode kinds (spectrum_at (total_carriers mode) xs j) (pair_at part) part_at
+    -- so one more fits, in whatever phase
+    pub few_votes : (v : ℕ) → v < 4 → Fits w32 (get_or all v 0 + 1)
+    few_votes v h = omega (arith, few (votes_to mode kinds xs j) c.counted (le_of_eq (length_to mode kinds xs j)) v h)
 
-        abbrev vote : ℕ
-        vote = vote_of j b.choice
+    pub few_heard : (v : ℕ) → v < 4 → (b : Bool) → Fits w32 (get_or heard v 0 + bool_byte b)
+    few_heard v h b =
+        omega (arith, few (heard_votes_to mode kinds xs j) c.listened (heard_votes_few mode kinds xs j) v h, one_at_most b)
 
-        -- the counts of no more votes than symbols passed are few
-        few : {counts : List ℕ} (vs : List ℕ) → counts ≡ counts_of vs → length vs ≤ j → get_or counts vote 0 < 1024
-        few {counts} vs q l =
-            let n : get_or counts vote 0 ≡ count_of vs vote = rw q (counts_at vs vote (omega arith)) in
-            omega (arith, n, count_few vs vote, within)
+    module _ {b : Ballot} (e : b ≡ ballot_of mode kinds (pair_at part)) where
+      cast : b ≡ ballot_at mode kinds xs j
+      cast = e ∙ ballot_alike mode kinds (spectrum_at (total_carriers mode) xs j) (pair_at part) part_at
 
-        pub few_votes : get_or all vote 0 < 1024
-        few_votes = few (votes_to mode kinds xs j) c.counted (le_of_eq (length_to mode kinds xs j))
+      abbrev vote : ℕ
+      vote = vote_of j b.choice
 
-        pub few_heard : get_or heard vote 0 + bool_byte b.heard ≤ 1024
-        few_heard = omega (arith, few (heard_votes_to mode kinds xs j) c.listened (heard_votes_few mode kinds xs j), one_at_most b.heard)
+      pub again : Counted mode kinds xs (set all vote (get_or all vote 0 + 1)) (set heard vote (get_or heard vote 0 + bool_byte b.heard)) (j + 1)
+      again =
+          record {
+            counted = rw (c.counted, cast, add-one j, votes_more (ballot_at mode kinds xs) j) (counts_more (votes_to mode kinds xs j) _ (omega arith));
+            listened =
+                rw (c.listened, cast, add-one j, heard_more (ballot_at mode kinds xs) j)
+                (counts_if (heard_votes_to mode kinds xs j) _ (omega arith) (heard_at mode kinds xs j));
+          }
 
-        pub again : Counted mode kinds xs w (set all vote (get_or all vote 0 + 1)) (set heard vote (get_or heard vote 0 + bool_byte b.heard)) (from + w) (j + 1)
-        again =
-            record {
-              floats = c.floats;
-              start = rw (add-one j, suc-mul) (omega (arith, c.start));
-              passed = omega (arith, inside);
-              counted = rw (c.counted, cast, add-one j, votes_more (ballot_at mode kinds xs) j) (counts_more (votes_to mode kinds xs j) _ (omega arith));
-              listened =
-                  rw (c.listened, cast, add-one j, heard_more (ballot_at mode kinds xs) j)
-                  (counts_if (heard_votes_to mode kinds xs j) _ (omega arith) (heard_at mode kinds xs j));
-            }
-
-    pub done : length xs ≤ from → VoteCountsOf (ballots mode kinds xs) (record { all = all; heard = heard })
-    unfolding ballots
-    done h = let e = by (dec_lt j (spectra_here mode xs)) in record { all = rw e at c.counted; heard = rw e at c.listened }
-      where
-        by : Dec (j < spectra_here mode xs) → j ≡ spectra_here mode xs
-        by (yes l) = absurd (omega (arith, room l, c.floats, (sized mode).band))
-        by (no l) = omega (arith, c.passed)
+pub done : {mode : Mode} {kinds : List ℕ} {xs : List Float} {all heard : List ℕ} {j : ℕ} → j ≡ spectra_here mode xs → Counted mode kinds xs all heard j
+    → VoteCountsOf (ballots mode kinds xs) (record { all = all; heard = heard })
+unfolding ballots
+done e c = record { all = rw e at c.counted; heard = rw e at c.listened }

@@ -2,16 +2,14 @@
 -- quarter, or all are amplified by a power of two on whole-number parts, every symbol's ballot is as before (ballots/specs/Changed). So phase,
 -- share, counts and lead, which are functions of the ballots, are the same, bit for bit.
 -- Assumes nothing.
-use Rattle.std.specs.Prelude.{ℕ, List, ◌≡◌, eqb, length, Float, Some}
+use Rattle.std.specs.Prelude.{ℕ, List, ◌≡◌, eqb, length, Float, Some, None}
 use Rattle.std.proofs.Math.Bool.{cond}
 use Rattle.params.specs.declared.Mode.{Mode}
-use Rattle.params.specs.Params.{total_carriers}
+use Rattle.params.specs.Params.{total_carriers, answered}
 use Rattle.complex.specs.Changes.{Change}
 use Rattle.spectra.specs.Changes.{Changed, Allowed}
 use Rattle.ballots.specs.Ballots.{pilots, ballots}
 use Rattle.ballots.specs.Changed.{changed_ballots}
-use Rattle.pilot_phase.specs.declared.PilotPhase.TheVariants.{NoScatteredPilots}
-use Rattle.pilot_phase.specs.declared.PhaseAnswer.TheVariants.{Detected, Refused}
 use Rattle.winner.specs.Winner.{lead_of}
 use Rattle.pilot_phase.specs.PilotPhase.{votes, counts_of, heard_counts, phase_of, phase_code, detected, phase_answer, no_counts, counts_answer}
 use Rattle.pilot_phase.specs.PilotPhase.{lead_beside, lead_answer}
@@ -24,8 +22,7 @@ module _ (c : Change) (mode : Mode) (kinds : List ℕ) (xs ys : List Float) (A :
   pub changed_phase : phase_answer (Some mode) kinds ys ≡ phase_answer (Some mode) kinds xs
   unfolding phase_answer detected
   changed_phase = λ i.
-      let code = phase_code (Some mode) kinds (h.long i) in
-      cond (eqb code 0) (Detected (cond (eqb (length (pilots mode kinds 0)) 0) NoScatteredPilots (phase_of (same i)))) (Refused code)
+      answered (phase_code (Some mode) kinds (h.long i)) (cond (eqb (length (pilots mode kinds 0)) 0) None (Some (phase_of (same i))))
 
   pub changed_counts : counts_answer (Some mode) kinds ys ≡ counts_answer (Some mode) kinds xs
   unfolding counts_answer

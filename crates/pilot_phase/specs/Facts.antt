@@ -1,54 +1,68 @@
 -- What document 01 says of the pilot phase: every spectrum votes, so the four counts add up to the number of spectra; zero spectra give phase 3,
 -- share 0.0. The phase of symbol 0 is handed on to symbol j, and the counts of two captures, one behind the other, come from the counts of each.
 -- Assumes nothing.
-use Rattle.std.specs.Prelude.{ℕ, suc, ◌+◌, ◌-◌, ◌%◌, ◌≤◌, ◌<◌, Bool, true, false, cond, List, [], ◌∷◌, ◌++◌, ◌≡◌, refl, eqb, get_or, length, Float, Option, Some, None}
-use Rattle.std.proofs.Common.{sym, ap, ◌∙◌, mod-lt, arith, eq-eqb, ne_eqb, eqb-true, lit<}
+use Rattle.std.specs.Prelude.{ℕ, suc, ◌+◌, ◌-◌, ◌%◌, ◌≤◌, ◌<◌, Bool, true, false, cond, List, [], ◌∷◌, ◌++◌, ◌≡◌, refl, eqb, get_or, length, Float}
+use Rattle.std.specs.Prelude.{Option, Some, None, Result, Ok, Err}
+use Rattle.std.proofs.Common.{sym, ap, ◌∙◌, mod-lt, arith, eq-eqb, ne_eqb, eqb-true, lit<, lit≤}
 use Rattle.std.proofs.lemmas.Bool.{eqb-false}
 use Rattle.std.specs.Float.{binary32}
 use Rattle.std.specs.Float.Ieee.{div, of_int, of_bits}
 use Rattle.lists.specs.Lists.{up_to}
-use Rattle.lists.specs.Refusals.{numbered}
+use Rattle.lists.specs.Refusals.{unless}
 use Rattle.ieee.specs.Constants.{plus_zero}
 use Rattle.lists.specs.Select.{length_up_to, get_or_up_to, up_to_same}
 use Rattle.lists.specs.Tests.{agree}
 use Rattle.params.specs.declared.Mode.{Mode}
 use Rattle.params.specs.declared.Mode.TheVariants.{M1, M2, M3}
-use Rattle.params.specs.Params.{total_carriers}
+use Rattle.params.specs.declared.Refusal.{Refusal}
+use Rattle.params.specs.declared.Refusal.TheVariants.{BadMode, BadKinds, BadPhase, Outside, NotWhole, NoSpectra, WrongLength}
+use Rattle.params.specs.declared.Refusal.TheVariants.{BadBound, BadGuard, TooWide, BadForm}
+use Rattle.params.specs.Params.{total_carriers, refusal_number, code_of}
+use Rattle.params.specs.Laws.{answered_code}
 use Rattle.spectra.specs.Spectra.{spectra_in}
 use Rattle.frame.specs.Operations.{are_kinds}
 use Rattle.pilot_phase.specs.declared.PilotPhase.{PilotPhase}
-use Rattle.pilot_phase.specs.declared.PilotPhase.TheVariants.{Phase}
-use Rattle.pilot_phase.specs.declared.PhaseAnswer.{PhaseAnswer}
-use Rattle.pilot_phase.specs.declared.PhaseAnswer.TheVariants.{Detected, Refused}
 use Rattle.ballots.specs.declared.Ballot.{Ballot}
 use Rattle.ballots.specs.Ballots.{pilots, ballots}
 use Rattle.ballots.specs.Facts.{ballots_length}
 use Rattle.winner.specs.Winner.{won_by, share_of}
 use Rattle.pilot_phase.specs.PilotPhase.{phase_at, vote_of, votes_from, votes, count_of, counts_of, plus_counts, turned_back}
-use Rattle.pilot_phase.specs.PilotPhase.{phase_of, phase_code, detected, phase_answer, no_counts, counts_answer, phase_number, beside_given}
+use Rattle.pilot_phase.specs.PilotPhase.{phase_of, phase_code, detected, phase_answer, no_counts, counts_answer, beside_given}
 
 -- ---- an answer's number is the code
-pub phase_number_lem : (mode : Option Mode) (kinds : List ℕ) (xs : List Float) → phase_number (phase_answer mode kinds xs) ≡ phase_code mode kinds (length xs)
+pub phase_number_lem : (mode : Option Mode) (kinds : List ℕ) (xs : List Float) → code_of (phase_answer mode kinds xs) ≡ phase_code mode kinds (length xs)
 unfolding phase_answer phase_code
 phase_number_lem None kinds xs = refl
-phase_number_lem (Some m) kinds xs = numbered phase_number Refused (phase_code (Some m) kinds (length xs)) _ refl (λ k. refl)
+phase_number_lem (Some m) kinds xs = answered_code (phase_code (Some m) kinds (length xs)) _ (few _ _)
+  where
+    few : (a b : Bool) → unless a 2 (unless b 5 0) ≤ 11
+    few true true = lit≤ tt
+    few true false = lit≤ tt
+    few false b = lit≤ tt
 
 -- so a refusal's number is never 0
-pub refused_number : (mode : Option Mode) (kinds : List ℕ) (xs : List Float) (n : ℕ) → phase_answer mode kinds xs ≡ Refused n → n ≡ 0 → ⊥
-unfolding phase_answer
-refused_number None kinds xs n e z = let o : ◌≡◌ {A = ℕ} 1 0 = cc in omega arith
-refused_number (Some m) kinds xs n e z = let code = phase_code (Some m) kinds (length xs) in by code (eqb code 0) refl e
-  where
-    by : (code : ℕ) (accepted : Bool) → eqb code 0 ≡ accepted → cond accepted (Detected (detected m kinds xs)) (Refused code) ≡ Refused n → ⊥
-    by code true t e = let o : ◌≡◌ {A = ℕ} 1 0 = cc in omega arith
-    by code false t e = eqb-false code 0 t (cc)
+pub refused_number : (mode : Option Mode) (kinds : List ℕ) (xs : List Float) (refusal : Refusal) → phase_answer mode kinds xs ≡ Err refusal
+    → refusal_number refusal ≡ 0 → ⊥
+refused_number mode kinds xs BadMode e z = omega arith
+refused_number mode kinds xs BadKinds e z = omega arith
+refused_number mode kinds xs BadPhase e z = omega arith
+refused_number mode kinds xs Outside e z = omega arith
+refused_number mode kinds xs NotWhole e z = omega arith
+refused_number mode kinds xs NoSpectra e z = omega arith
+refused_number mode kinds xs WrongLength e z = omega arith
+refused_number mode kinds xs BadBound e z = omega arith
+refused_number mode kinds xs BadGuard e z = omega arith
+refused_number mode kinds xs TooWide e z = omega arith
+refused_number mode kinds xs BadForm e z = omega arith
 
 -- what stands beside the answer, by the answer's case
-pub beside_detected : {A : Type 0} {a : PhaseAnswer} {found : PilotPhase} (given lent : A) → a ≡ Detected found → given ≡ beside_given a given lent
-beside_detected given lent e = sym (ap (λ (x : PhaseAnswer). beside_given x given lent) e)
+pub beside_detected : {A : Type 0} {a : Result (Option PilotPhase) Refusal} {found : Option PilotPhase} (given lent : A) → a ≡ Ok found
+    → given ≡ beside_given a given lent
+beside_detected given lent e = sym (ap (λ (x : Result (Option PilotPhase) Refusal). beside_given x given lent) e)
 
-pub beside_refused : {A : Type 0} {a : PhaseAnswer} {code : ℕ} (given lent : A) → a ≡ Refused code → lent ≡ beside_given a given lent
-beside_refused given lent e = sym (ap (λ (x : PhaseAnswer). beside_given x given lent) e)
+pub beside_refused : {A : Type 0} {a : Result (Option PilotPhase) Refusal} {refusal : Refusal} (given lent : A) → a ≡ Err refusal
+    → lent ≡ beside_given a given lent
+beside_refused given lent e = sym (ap (λ (x : Result (Option PilotPhase) Refusal). beside_given x given lent) e)
 
 -- ---- the phase of symbol 0, handed on to symbol j
 pub phase_below : (phase j : ℕ) → phase_at phase j < 4
@@ -197,7 +211,7 @@ counts_append bs cs =
 
 -- ---- zero spectra: phase 3 with share 0.0
 pub no_spectra : (m : Mode) (kinds : List ℕ) → are_kinds kinds ≡ true → eqb (length (pilots m kinds 0)) 0 ≡ false
-    → phase_answer (Some m) kinds [] ≡ Detected (Phase 3 (plus_zero binary32))
+    → phase_answer (Some m) kinds [] ≡ Ok (Some (record { phase = 3; share = plus_zero binary32 }))
 unfolding phase_answer detected phase_of phase_code counts_of count_of votes_from ballots won_by share_of div of_int of_bits
 no_spectra M1 kinds k e = rw (k, e)
 no_spectra M2 kinds k e = rw (k, e)

@@ -2,7 +2,7 @@
 -- 0; where every symbol is heard it is the lead of the four counts, as it was before; and it never exceeds the number of symbols heard.
 -- Assumes nothing.
 use Prim.Native.Nat.{ℕ, zero, suc, ◌+◌, ◌≤◌, ◌<◌, zero-le}
-use Rattle.std.specs.Prelude.{Bool, ◌≡◌, eqb, get_or, Float, Option, Some, None}
+use Rattle.std.specs.Prelude.{Bool, ◌≡◌, eqb, get_or, Float, Option, Some, None, Result, Ok, Err}
 use Rattle.std.proofs.Math.Bool.{true, false, cond}
 use mathlib.Core.List.{List, [], ◌∷◌, ◌++◌}
 use Rattle.std.proofs.Math.Path.{refl, sym, ap}
@@ -16,16 +16,15 @@ use Rattle.lists.specs.Lists.{up_to}
 use Rattle.lists.specs.Select.{length_up_to}
 use Rattle.lists.specs.Tests.{count_below}
 use Rattle.params.specs.declared.Mode.{Mode}
-use Rattle.params.specs.Params.{total_carriers}
+use Rattle.params.specs.Params.{total_carriers, refusal_of}
 use Rattle.spectra.specs.Spectra.{spectra_in}
 use Rattle.ballots.specs.declared.Ballot.{Ballot}
 use Rattle.ballots.specs.Ballots.{pilots, ballot_at, heard_at, ballots}
 use Rattle.ballots.specs.Silent.{zeros_silent}
 use Rattle.winner.specs.Winner.{won_by, lead_of}
 use Rattle.winner.specs.Facts.{won_phase, lead_below, no_lead}
-use Rattle.pilot_phase.specs.declared.PilotPhase.TheVariants.{NoScatteredPilots, Phase}
-use Rattle.pilot_phase.specs.declared.PhaseAnswer.{PhaseAnswer}
-use Rattle.pilot_phase.specs.declared.PhaseAnswer.TheVariants.{Detected, Refused}
+use Rattle.params.specs.declared.Refusal.{Refusal}
+use Rattle.pilot_phase.specs.declared.PilotPhase.{PilotPhase}
 use Rattle.pilot_phase.specs.PilotPhase.{vote_of, votes_from, votes, heard_votes_from, count_of, counts_of, heard_counts}
 use Rattle.pilot_phase.specs.PilotPhase.{phase_of, phase_code, detected, phase_answer, no_counts, counts_answer, lead_beside, lead_answer, pilots_given}
 use Rattle.pilot_phase.specs.Facts.{votes_more, counts_at, count_few}
@@ -85,10 +84,10 @@ module _ (f : ℕ → Ballot) where
 
 -- ---- the lead, of any call
 -- beside an answer stands the lead, or 0
-beside : (R : ℕ → Type 0) (a : PhaseAnswer) (lead : ℕ) → R lead → R 0 → R (lead_beside a lead)
-beside R (Detected (Phase p s)) lead h z = h
-beside R (Detected NoScatteredPilots) lead h z = z
-beside R (Refused code) lead h z = z
+beside : (R : ℕ → Type 0) (a : Result (Option PilotPhase) Refusal) (lead : ℕ) → R lead → R 0 → R (lead_beside a lead)
+beside R (Ok (Some phase)) lead h z = h
+beside R (Ok None) lead h z = z
+beside R (Err refusal) lead h z = z
 
 module _ (mode : Mode) (kinds : List ℕ) (xs : List Float) where
   abbrev symbols : ℕ
@@ -115,7 +114,7 @@ module _ (mode : Mode) (kinds : List ℕ) (xs : List Float) where
       same = ap (λ (vs : List ℕ). lead_of (counts_of vs)) (all_heard (ballot_at mode kinds xs) symbols h)
 
       by : (accepted none : Bool)
-          → lead_beside (cond accepted (Detected (cond none NoScatteredPilots (phase_of bs))) (Refused (phase_code (Some mode) kinds (length xs))))
+          → lead_beside (cond accepted (Ok (cond none None (Some (phase_of bs)))) (Err (refusal_of (phase_code (Some mode) kinds (length xs)))))
           (lead_of (heard_counts bs))
           ≡ lead_of (cond accepted (cond none no_counts (counts_of (votes bs))) no_counts)
       by true true = sym no_lead
@@ -146,10 +145,10 @@ unfolding lead_answer
 no_phase_lead None kinds xs e = refl
 no_phase_lead (Some m) kinds xs e = by (phase_answer (Some m) kinds xs) e
   where
-    by : (a : PhaseAnswer) → pilots_given a 0 ≡ 0 → lead_beside a (lead_of (heard_counts (ballots m kinds xs))) ≡ 0
-    by (Detected (Phase p s)) e = absurd (omega arith)
-    by (Detected NoScatteredPilots) e = refl
-    by (Refused code) e = refl
+    by : (a : Result (Option PilotPhase) Refusal) → pilots_given a 0 ≡ 0 → lead_beside a (lead_of (heard_counts (ballots m kinds xs))) ≡ 0
+    by (Ok (Some phase)) e = absurd (omega arith)
+    by (Ok None) e = refl
+    by (Err refusal) e = refl
 
 -- so zeros alone have lead 0, of either sign (`canon` forgets it), whatever else is handed in
 pub zeros_lead : (mode : Option Mode) (kinds : List ℕ) (xs : List Float) → ((i : ℕ) → i < length xs → canon (get_or xs i nan) ≡ plus_zero binary32)

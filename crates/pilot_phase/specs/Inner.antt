@@ -1,18 +1,14 @@
 -- The words of the contracts inside this crate.
 -- Definitions only.
-use Rattle.std.specs.Prelude.{ℕ, ◌*◌, ◌%◌, ◌≤◌, ◌<◌, cond, List, ◌≡◌, eqb, get_or, length, Float}
-use Rattle.lists.specs.Refusals.{unless}
+use Rattle.std.specs.Prelude.{ℕ, ◌*◌, ◌%◌, ◌≤◌, ◌<◌, cond, List, ◌≡◌, eqb, get_or, length, Float, Some, Ok}
 use Rattle.params.specs.declared.Mode.{Mode}
 use Rattle.params.specs.Params.{total_carriers}
-use Rattle.spectra.specs.Spectra.{spectra_in, are_spectra}
+use Rattle.spectra.specs.Spectra.{spectra_in}
 use Rattle.prbs.specs.Signs.{band_signs}
 use Rattle.ballots.specs.declared.Ballot.{Ballot}
 use Rattle.ballots.specs.Ballots.{pilots, ballots}
 use Rattle.winner.specs.Winner.{won_by, share_of, lead_of}
 use Rattle.winner.specs.Inner.{Few}
-use Rattle.pilot_phase.specs.declared.PilotPhase.TheVariants.{Phase}
-use Rattle.pilot_phase.specs.declared.PhaseAnswer.{PhaseAnswer}
-use Rattle.pilot_phase.specs.declared.PhaseAnswer.TheVariants.{Detected}
 use Rattle.pilot_phase.specs.declared.PilotAnswer.{PilotAnswer}
 use Rattle.pilot_phase.specs.declared.VoteCounts.{VoteCounts}
 use Rattle.pilot_phase.specs.PilotPhase.{votes, counts_of, heard_counts, detected, no_counts, lead_beside}
@@ -38,27 +34,24 @@ pub record Counted (counts : List ℕ) (n : ℕ) : Type 0 where
   pub each : (p : ℕ) → p < 4 → Few (get_or counts p 0) n
 
 -- ---- the answers
--- the number that refuses the layout, or else the length of n floats
-abbrev pub length_code : ℕ → Mode → ℕ → ℕ
-length_code code mode n = cond (eqb code 0) (unless (are_spectra (total_carriers mode) n) 5 0) code
-
--- nothing was counted
-pub record Nothing (answer : PhaseAnswer) (r : PilotAnswer) : Type 0 where
-  pub same : r.answer ≡ answer
-  pub counts : r.counts ≡ no_counts
-  pub lead : r.lead ≡ 0
-
 -- what these counts of the votes of `total` spectra tell: those of all symbols the phase and its share, those of the symbols heard the lead
-pub record Told (counts : VoteCounts) (total : ℕ) (r : PilotAnswer) : Type 0 where
-  pub answer : r.answer ≡ Detected (Phase (won_by counts.all) (share_of (get_or counts.all (won_by counts.all) 0) total))
-  pub same : r.counts ≡ counts.all
-  pub lead : r.lead ≡ lead_of counts.heard
+abbrev pub told : VoteCounts → ℕ → PilotAnswer
+told counts total =
+    let won = won_by counts.all in
+    record {
+      phase = Some (record { phase = won; share = share_of (get_or counts.all won 0) total });
+      counts = counts.all;
+      lead = lead_of counts.heard;
+    }
 
 -- the counts of an accepted call, and all that it answers
 unfoldable pub accepted_counts : Mode → List ℕ → List Float → List ℕ
 accepted_counts mode kinds xs = cond (eqb (length (pilots mode kinds 0)) 0) no_counts (counts_of (votes (ballots mode kinds xs)))
 
-pub record Accepted (mode : Mode) (kinds : List ℕ) (xs : List Float) (r : PilotAnswer) : Type 0 where
-  pub answer : r.answer ≡ Detected (detected mode kinds xs)
-  pub counts : r.counts ≡ accepted_counts mode kinds xs
-  pub lead : r.lead ≡ lead_beside (Detected (detected mode kinds xs)) (lead_of (heard_counts (ballots mode kinds xs)))
+abbrev pub pilot_answer : Mode → List ℕ → List Float → PilotAnswer
+pilot_answer mode kinds xs =
+    record {
+      phase = detected mode kinds xs;
+      counts = accepted_counts mode kinds xs;
+      lead = lead_beside (Ok (detected mode kinds xs)) (lead_of (heard_counts (ballots mode kinds xs)));
+    }

@@ -3,17 +3,16 @@
 -- worked out over the votes of the symbols that were heard (document 02, Ask 4). All this is a function of the ballots (ballots/specs/Ballots,
 -- winner/specs/Winner).
 -- Definitions only.
-use Rattle.std.specs.Prelude.{ℕ, suc, ◌+◌, ◌-◌, ◌%◌, cond, List, [], ◌∷◌, ◌≡◌, eqb, get_or, length, Float, Option, Some, None}
+use Rattle.std.specs.Prelude.{ℕ, suc, ◌+◌, ◌-◌, ◌%◌, cond, List, [], ◌∷◌, ◌≡◌, eqb, get_or, length, Float, Option, Some, None, Result, Ok, Err}
 use Rattle.lists.specs.Lists.{up_to}
 use Rattle.lists.specs.Refusals.{unless}
 use Rattle.params.specs.declared.Mode.{Mode}
-use Rattle.params.specs.Params.{total_carriers}
+use Rattle.params.specs.declared.Refusal.{Refusal}
+use Rattle.params.specs.declared.Refusal.TheVariants.{BadMode}
+use Rattle.params.specs.Params.{total_carriers, code_of, answered, given}
 use Rattle.spectra.specs.Spectra.{are_spectra}
 use Rattle.frame.specs.Operations.{are_kinds}
 use Rattle.pilot_phase.specs.declared.PilotPhase.{PilotPhase}
-use Rattle.pilot_phase.specs.declared.PilotPhase.TheVariants.{NoScatteredPilots, Phase}
-use Rattle.pilot_phase.specs.declared.PhaseAnswer.{PhaseAnswer}
-use Rattle.pilot_phase.specs.declared.PhaseAnswer.TheVariants.{Detected, Refused}
 use Rattle.pilot_phase.specs.declared.PilotAnswer.{PilotAnswer}
 use Rattle.ballots.specs.declared.Ballot.{Ballot}
 use Rattle.ballots.specs.Ballots.{pilots, ballots}
@@ -61,7 +60,8 @@ turned_back n counts = up_to (λ v. get_or counts (phase_at v n) 0) 4
 
 -- ---- what the votes detect: the winner of their counts, with its share of them
 unfoldable pub phase_of : List Ballot → PilotPhase
-phase_of bs = let counts = counts_of (votes bs) in Phase (won_by counts) (share_of (get_or counts (won_by counts) 0) (length bs))
+phase_of bs = let counts = counts_of (votes bs) in
+    record { phase = won_by counts; share = share_of (get_or counts (won_by counts) 0) (length bs) }
 
 -- ---- the operation: 1; 2; 5 unless whole spectra, 0 to 1,024
 unfoldable pub phase_code : Option Mode → List ℕ → ℕ → ℕ
@@ -69,14 +69,12 @@ phase_code None kinds floats = 1
 phase_code (Some m) kinds floats = unless (are_kinds kinds) 2 (unless (are_spectra (total_carriers m) floats) 5 0)
 
 -- what is detected: no scattered pilots, or the phase with its share
-unfoldable pub detected : Mode → List ℕ → List Float → PilotPhase
-detected m kinds xs = cond (eqb (length (pilots m kinds 0)) 0) NoScatteredPilots (phase_of (ballots m kinds xs))
+unfoldable pub detected : Mode → List ℕ → List Float → Option PilotPhase
+detected m kinds xs = cond (eqb (length (pilots m kinds 0)) 0) None (Some (phase_of (ballots m kinds xs)))
 
-unfoldable pub phase_answer : Option Mode → List ℕ → List Float → PhaseAnswer
-phase_answer None kinds xs = Refused 1
-phase_answer (Some m) kinds xs =
-    let code = phase_code (Some m) kinds (length xs) in
-    cond (eqb code 0) (Detected (detected m kinds xs)) (Refused code)
+unfoldable pub phase_answer : Option Mode → List ℕ → List Float → Result (Option PilotPhase) Refusal
+phase_answer None kinds xs = Err BadMode
+phase_answer (Some m) kinds xs = answered (phase_code (Some m) kinds (length xs)) (detected m kinds xs)
 
 -- where there are no scattered pilots, or the call is refused, nothing was counted
 abbrev pub no_counts : List ℕ
@@ -90,44 +88,46 @@ counts_answer (Some m) kinds xs =
     no_counts
 
 -- a lead stands beside a phase; where none is told it is 0
-abbrev pub lead_beside : PhaseAnswer → ℕ → ℕ
-lead_beside (Detected (Phase p s)) lead = lead
-lead_beside (Detected NoScatteredPilots) lead = 0
-lead_beside (Refused code) lead = 0
+abbrev pub lead_beside : Result (Option PilotPhase) Refusal → ℕ → ℕ
+lead_beside (Ok (Some phase)) lead = lead
+lead_beside (Ok None) lead = 0
+lead_beside (Err refusal) lead = 0
 
 -- the lead of the symbols that were heard
 unfoldable pub lead_answer : Option Mode → List ℕ → List Float → ℕ
 lead_answer None kinds xs = 0
 lead_answer (Some m) kinds xs = lead_beside (phase_answer (Some m) kinds xs) (lead_of (heard_counts (ballots m kinds xs)))
 
--- ---- document 01's number of each case, and the values that it gives; what was lent, where it gives none
-abbrev pub phase_number : PhaseAnswer → ℕ
-phase_number (Detected found) = 0
-phase_number (Refused code) = code
-
+-- ---- the values that an answer gives; what was lent, where it gives none
 -- 1 where there are scattered pilots, 0 where there are none
-abbrev pub pilots_given : PhaseAnswer → ℕ → ℕ
-pilots_given (Detected (Phase p s)) lent = 1
-pilots_given (Detected NoScatteredPilots) lent = 0
-pilots_given (Refused code) lent = lent
+abbrev pub pilots_given : Result (Option PilotPhase) Refusal → ℕ → ℕ
+pilots_given (Ok (Some phase)) lent = 1
+pilots_given (Ok None) lent = 0
+pilots_given (Err refusal) lent = lent
 
-abbrev pub phase_given : PhaseAnswer → ℕ → ℕ
-phase_given (Detected (Phase p s)) lent = p
-phase_given (Detected NoScatteredPilots) lent = lent
-phase_given (Refused code) lent = lent
+abbrev pub phase_given : Result (Option PilotPhase) Refusal → ℕ → ℕ
+phase_given (Ok (Some phase)) lent = phase.phase
+phase_given (Ok None) lent = lent
+phase_given (Err refusal) lent = lent
 
-abbrev pub share_given : PhaseAnswer → Float → Float
-share_given (Detected (Phase p s)) lent = s
-share_given (Detected NoScatteredPilots) lent = lent
-share_given (Refused code) lent = lent
+abbrev pub share_given : Result (Option PilotPhase) Refusal → Float → Float
+share_given (Ok (Some phase)) lent = phase.share
+share_given (Ok None) lent = lent
+share_given (Err refusal) lent = lent
 
--- what stands beside the answer, the counts and the lead, is given where it is not refused
-abbrev pub beside_given : {A : Type 0} → PhaseAnswer → A → A → A
-beside_given (Detected found) given lent = given
-beside_given (Refused code) given lent = lent
+-- what stands beside the phase, the counts and the lead, is given where the call is not refused
+abbrev pub beside_given : {A : Type 0} → Result (Option PilotPhase) Refusal → A → A → A
+beside_given (Ok found) value lent = value
+beside_given (Err refusal) value lent = lent
 
-pub record PhaseDetected (mode : Option Mode) (kinds : List ℕ) (xs : List Float) (r : PilotAnswer) : Type 0 where
-  pub number : phase_number r.answer ≡ phase_code mode kinds (length xs)
-  pub answer : r.answer ≡ phase_answer mode kinds xs
-  pub counts : r.counts ≡ counts_answer mode kinds xs
-  pub lead : r.lead ≡ lead_answer mode kinds xs
+-- the phase of an answer
+abbrev pub phase_in : Result PilotAnswer Refusal → Result (Option PilotPhase) Refusal
+phase_in (Ok answer) = Ok answer.phase
+phase_in (Err refusal) = Err refusal
+
+-- counts and a lead of 0 stand for those of a refusal, which has none
+pub record PhaseDetected (mode : Option Mode) (kinds : List ℕ) (xs : List Float) (r : Result PilotAnswer Refusal) : Type 0 where
+  pub number : code_of r ≡ phase_code mode kinds (length xs)
+  pub answer : phase_in r ≡ phase_answer mode kinds xs
+  pub counts : given (λ answer. answer.counts) r no_counts ≡ counts_answer mode kinds xs
+  pub lead : given (λ answer. answer.lead) r 0 ≡ lead_answer mode kinds xs

@@ -5,33 +5,27 @@
 #![tactic(auto)]
 
 ghost use Rattle.std.specs.Prelude.{◌≡◌, length};
-ghost use Rattle.params.specs.Params.{mode_from};
+ghost use Rattle.params.specs.Params.{mode_from, total_carriers, kind_codes};
+ghost use Rattle.spectra.specs.Spectra.{are_spectra};
 ghost use Rattle.ballots.specs.Ballots.{ballots};
 ghost use Rattle.pilot_phase.specs.PilotPhase.{PhaseDetected};
-ghost use Rattle.pilot_phase.specs.Inner.{Whole, Votable, VoteCountsOf, Counted, Nothing, Told, length_code, Accepted};
+ghost use Rattle.pilot_phase.specs.Inner.{Whole, Votable, VoteCountsOf, Counted, told, pilot_answer};
 
 use frame::FrameLayout;
-use params::Mode;
+use params::{Mode, Refusal};
 
+// The phase of symbol 0, and the share of the votes for it. Symbol j has phase (phase + j) % 4.
 #[derive(Clone, Copy)]
-pub enum PilotPhase {
-    NoScatteredPilots,
-    // The phase of symbol 0, and the share of the votes for it. Symbol j has phase (phase + j) % 4.
-    Phase(u8, f32),
+pub struct PilotPhase {
+    pub phase: u8,
+    pub share: f32,
 }
 
-// What a call answers: what it detected, or the number by which it was refused.
-#[derive(Clone, Copy)]
-pub enum PhaseAnswer {
-    Detected(PilotPhase),
-    Refused(u8),
-}
-
-// The answer; the four counts; and of the counts of the symbols that were heard, the largest less the
-// largest of the others.
+// The phase, if there are scattered pilots; the four counts; and of the counts of the symbols that were
+// heard, the largest less the largest of the others.
 #[derive(Clone, Copy)]
 pub struct PilotAnswer {
-    pub answer: PhaseAnswer,
+    pub phase: Option<PilotPhase>,
     pub counts: [u32; 4],
     pub lead: u32,
 }
@@ -46,34 +40,27 @@ pub struct VoteCounts {
 // The votes of all spectra, and of those that were heard, counted by the signs of the carriers.
 fn count_votes(layout: FrameLayout, spectra: &[f32], signs: &[u8]) -> VoteCounts
     requires { Votable layout.mode (length spectra.now) signs.now }
-    ensures { VoteCountsOf (ballots layout.mode layout.kinds spectra.now) result }
+    ensures { VoteCountsOf (ballots layout.mode (kind_codes layout.kinds) spectra.now) result }
 {
     let mode = layout.mode;
     let w = 2 * mode.total_carriers();
     let mut all = [0u32; 4];
     let mut heard = [0u32; 4];
-    let mut from: usize = 0;
-    let mut j: u32 = 0;
-    while from < spectra.len() {
-        let to = from + w;
-        let ballot = ballots::ballot_of(layout, &spectra[from..to], signs);
-        let vote = ((ballot.choice as u32 + 4 - j % 4) % 4) as usize;
-        let is_heard = ballot.heard as u32;
-        all[vote] = all[vote] + 1;
-        heard[vote] = heard[vote] + is_heard;
-        from = to;
-        j += 1;
+    // By numbers: the proof over `chunks_exact(w).enumerate()` did not close.
+    for j in 0..spectra.len() / w {
+        let from = j * w;
+        let ballot = ballots::ballot_of(layout, &spectra[from..from + w], signs);
+        let vote = (ballot.choice as usize + 4 - j % 4) % 4;
+        all[vote] += 1;
+        heard[vote] += ballot.heard as u32;
     }
-    VoteCounts {
-        all: all,
-        heard: heard,
-    }
+    VoteCounts { all, heard }
 }
 
 // The same, by the signs of the band.
 fn band_votes(layout: FrameLayout, spectra: &[f32]) -> VoteCounts
     requires { Whole layout.mode (length spectra.now) }
-    ensures { VoteCountsOf (ballots layout.mode layout.kinds spectra.now) result }
+    ensures { VoteCountsOf (ballots layout.mode (kind_codes layout.kinds) spectra.now) result }
 {
     let mode = layout.mode;
     let k = mode.total_carriers();
@@ -85,60 +72,45 @@ fn band_votes(layout: FrameLayout, spectra: &[f32]) -> VoteCounts
 // What the counts of the votes of `total` spectra tell.
 fn counted(counts: VoteCounts, total: usize) -> PilotAnswer
     requires { Counted counts.all total }
-    ensures { Told counts total result }
+    ensures { result ≡ told counts total }
 {
     let all = counts.all;
     let heard = counts.heard;
     let won = winner::won_by(all);
     let share = winner::share_of(all[won], total);
-    let phase = won as u8;
-    let lead = winner::lead_of(heard);
     PilotAnswer {
-        answer: PhaseAnswer::Detected(PilotPhase::Phase(phase, share)),
+        phase: Some(PilotPhase {
+            phase: won as u8,
+            share,
+        }),
         counts: all,
-        lead: lead,
+        lead: winner::lead_of(heard),
     }
 }
 
-// An answer in which nothing was counted.
-fn nothing(answer: PhaseAnswer) -> PilotAnswer
-    ensures { Nothing answer result }
-{
-    PilotAnswer {
-        answer: answer,
-        counts: [0; 4],
-        lead: 0,
-    }
-}
-
-// What an accepted call answers: where no segment is coherent, that there are no scattered pilots.
+// What an accepted call answers: where no segment is coherent, there are no scattered pilots, and nothing
+// is counted.
 fn accepted(layout: FrameLayout, spectra: &[f32]) -> PilotAnswer
     requires { Whole layout.mode (length spectra.now) }
-    ensures { Accepted layout.mode layout.kinds spectra.now result }
+    ensures { result ≡ pilot_answer layout.mode (kind_codes layout.kinds) spectra.now }
 {
     if !ballots::has_pilots(layout) {
-        return nothing(PhaseAnswer::Detected(PilotPhase::NoScatteredPilots));
+        return PilotAnswer {
+            phase: None,
+            counts: [0; 4],
+            lead: 0,
+        };
     }
-    let mode = layout.mode;
-    let w = 2 * mode.total_carriers();
+    let w = 2 * layout.mode.total_carriers();
     counted(band_votes(layout, spectra), spectra.len() / w)
 }
 
-// The number that refuses the layout; or else 5 unless n floats are whole spectra, at most 1,024; or 0.
-fn refusal(layout: u8, mode: Mode, n: usize) -> u8
-    ensures { result ≡ length_code layout mode n }
+// Whether n floats are whole spectra, at most 1,024.
+fn are_whole(mode: Mode, n: usize) -> bool
+    ensures { result ≡ are_spectra (total_carriers mode) n }
 {
-    if layout != 0 {
-        return layout;
-    }
     let w = 2 * mode.total_carriers();
-    if n % w != 0 {
-        return 5;
-    }
-    if n / w > 1024 {
-        return 5;
-    }
-    0
+    n % w == 0 && n / w <= 1024
 }
 
 // The phase of symbol 0, with its share of the votes, the counts and the lead. The answer of an
@@ -146,15 +118,12 @@ fn refusal(layout: u8, mode: Mode, n: usize) -> u8
 //
 // Refused by 1 for a bad mode, 2 unless there are thirteen kinds of 0 or 1, 5 unless whole spectra of
 // k_total carriers, 0 to 1,024.
-pub fn detect_sp_phase(mode: u8, kinds: &[u8], spectra: &[f32]) -> PilotAnswer
+pub fn detect_sp_phase(mode: u8, kinds: &[u8], spectra: &[f32]) -> Result<PilotAnswer, Refusal>
     ensures { PhaseDetected (mode_from mode) kinds.now spectra.now result }
 {
-    let new = FrameLayout::new(mode, kinds);
-    let layout = new.layout;
-    let m = layout.mode;
-    let code = refusal(new.code, m, spectra.len());
-    if code != 0 {
-        return nothing(PhaseAnswer::Refused(code));
+    let layout = FrameLayout::new(mode, kinds)?;
+    if !are_whole(layout.mode, spectra.len()) {
+        return Err(Refusal::NotWhole);
     }
-    accepted(layout, spectra)
+    Ok(accepted(layout, spectra))
 }

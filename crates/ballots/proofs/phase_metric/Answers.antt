@@ -2,40 +2,26 @@
 -- Assumes nothing.
 use Prim.Native.Nat.{ℕ}
 use mathlib.Core.Path.{◌≡◌, refl, sym, ap, ◌∙◌}
-use native.Mathlib.Omega.{arith}
 use lib.ListN.{get_or}
-use Rattle.params.specs.Params.{kind_from}
+use Rattle.params.specs.Params.{kind_from, kind_codes}
 use Rattle.ofdm.specs.Band.{segment_at}
-use Rattle.ballots.proofs.Metric.{lowest_below, begin, walkable, again_coherent, again_differential, some_energy, no_energy}
+use Rattle.ballots.proofs.Metric.{begin, walkable, again_coherent, again_differential, some_energy, no_energy}
 use Rattle.ballots.proofs.phase_metric.Goals as goal
 use Rattle.ballots.proofs.phase_metric.Goals.{in-Coherent, in-Differential}
 
 pub loop-place-init : goal.loop-place-init
-loop-place-init c = begin c.carriers_per_segment-c.ensures refl c.new-2.ensures refl
-
-pub overflow_mul-low : goal.overflow_mul-low
-overflow_mul-low c = omega (arith, c.requires.0)
-
-pub band_carrier-lowest-requires : goal.band_carrier-lowest-requires
-band_carrier-lowest-requires c =
-    (c.loop-place-test.true, lowest_below c.args.layout.mode c.args.phase c.requires.0)
+loop-place-init c = begin c.carriers_per_segment-c.ensures refl c.new.ensures refl
 
 pub walk_segment-run-requires : goal.walk_segment-run-requires
 walk_segment-run-requires c =
     walkable c.loop-place.invariant c.requires.0 c.loop-place-test.true c.band_carrier-lowest.ensures c.requires.1
 
-pub overflow_add-place : goal.overflow_add-place
-overflow_add-place c = omega arith
-
-pub loop-place-smaller : goal.loop-place-smaller
-loop-place-smaller c = omega arith
-
 pub loop-place-preserved : goal.loop-place-preserved
 loop-place-preserved c =
     let h = c.loop-place-test.true in
-    let known : kind_from (get_or c.args.layout.kinds (segment_at c.loop-place.place) 0) ≡ c.kind.result =
-    ap (λ (n : ℕ). kind_from (get_or c.args.layout.kinds n 0)) (sym c.segment_at_position-seg.ensures.0)
-    ∙ sym c.kind.ensures in
+    let kinds = kind_codes c.args.layout.kinds in
+    let known : kind_from (get_or kinds (segment_at c.loop-place.place) 0) ≡ c.kind.result =
+    ap (λ (n : ℕ). kind_from (get_or kinds n 0)) (sym c.segment_at_position.ensures.0) ∙ sym c.kind.ensures in
     elim c.match-kind.branch [
       | in-Coherent w ↦
           rw w.run-is
@@ -45,8 +31,7 @@ loop-place-preserved c =
     ]
 
 pub returns-then-run : goal.returns-then-run
-returns-then-run c =
-    some_energy c.loop-place.invariant c.loop-place-test.false c.if-run.true
+returns-then-run c = some_energy c.loop-place.invariant c.loop-place-test.false c.if-run.true
 
 pub returns-else-run : goal.returns-else-run
 returns-else-run c = no_energy c.loop-place.invariant c.loop-place-test.false c.if-run.false

@@ -1,16 +1,17 @@
--- `pilot_phase::detect_sp_phase` meets its contract: nothing is counted where it is refused, and else what it answers is what an accepted call does.
+-- `pilot_phase::detect_sp_phase` meets its contract: each return is the case of the definition that the tests on the way decide.
 -- Assumes nothing.
-use Rattle.pilot_phase.proofs.Answers.{refused, whole, accepted}
+use mathlib.Core.Path.{sym, ◌∙◌}
+use Rattle.std.proofs.lemmas.Result.{err_from_is_err_and}
+use Rattle.pilot_phase.proofs.Answers.{refused_layout, refused_length, accepted}
 use Rattle.pilot_phase.proofs.detect_sp_phase.Goals as goal
 
-pub returns-then-code-ne0 : goal.returns-then-code-ne0
-returns-then-code-ne0 c =
-    refused c.args.spectra.now c.new-new.ensures c.refusal-code.ensures c.if-code-ne0.true c.nothing.ensures
+pub returns-in_err-layout : goal.returns-in_err-layout
+returns-in_err-layout c =
+    let p = err_from_is_err_and c.from_residual.result c.from_residual.ensures.1 in
+    rw (p.1, p.2) (refused_layout _ _ _ _ c.in_err-layout.ensures)
 
-pub accepted-requires : goal.accepted-requires
-accepted-requires c =
-    whole c.args.spectra.now c.new-new.ensures c.refusal-code.ensures c.if-code-ne0.false
+pub returns-then-not-are_whole : goal.returns-then-not-are_whole
+returns-then-not-are_whole c = refused_length _ _ c.in_ok-layout.ensures (sym c.are_whole.ensures ∙ c.if-not-are_whole.true)
 
 pub returns : goal.returns
-returns c =
-    accepted c.args.spectra.now c.new-new.ensures c.refusal-code.ensures c.if-code-ne0.false c.accepted.ensures
+returns c = accepted _ _ c.in_ok-layout.ensures (sym c.are_whole.ensures ∙ c.if-not-are_whole.false) c.accepted.ensures

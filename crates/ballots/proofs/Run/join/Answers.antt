@@ -1,8 +1,6 @@
 -- `ballots::Run::join` meets its contract: it is the definition, call for call.
 -- Assumes nothing.
-use mathlib.Core.Bool.{true, false}
 use mathlib.Core.Path.{◌≡◌, refl, sym, ap, ◌∙◌}
-use borrow.Author.Tests.{not-true, not-false}
 use lib.Ieee.{Float, binary32, add, mul}
 use Rattle.root.specs.Root.{root_of}
 use Rattle.ieee.specs.Narrow.{narrow_of}
@@ -16,21 +14,21 @@ use Rattle.ballots.proofs.Run.join.Goals as goal
 normed : {n : Float} (p : Pilot) → Sized p → n ≡ narrow_of (root_of p.square) → n ≡ norm32 (of32 p.value)
 normed p s e = e ∙ ap (λ (x : Float). narrow_of (root_of x)) s.square ∙ sym (norm32_is (of32 p.value))
 
-pub returns-then-not-self : goal.returns-then-not-self
-returns-then-not-self c =
-    let off : c.args.self.joined ≡ false = not-true _ c.if-not-self.true in
-    record { joined = refl; value = refl; norm = normed c.args.pilot c.requires c.narrow_root-norm.ensures; sum = rw off; energy = rw off }
+pub returns-in-None : goal.returns-in-None
+returns-in-None c =
+    let off = c.in-None.is in
+    record { last = _; keeps = refl; value = refl; norm = normed c.args.pilot c.requires c.narrow_root-norm.ensures; sum = rw off; energy = rw off }
 
-pub returns : goal.returns
-returns c =
-    let on : c.args.self.joined ≡ true = not-false _ c.if-not-self.false in
+pub returns-in-Some : goal.returns-in-Some
+returns-in-Some c =
     let v = of32 c.args.pilot.value in
     let size = normed c.args.pilot c.requires c.narrow_root-norm.ensures in
     let times = c.mul.ensures ∙ ap (product binary32 v) c.conj.ensures in
     record {
-      joined = refl;
+      last = _;
+      keeps = refl;
       value = refl;
       norm = size;
-      sum = rw on (c.add-sum.ensures ∙ ap (plus binary32 (of32 c.args.self.sum)) times);
-      energy = rw on (ap (λ (z : Float). add binary32 c.args.self.energy (mul binary32 c.args.self.norm z)) size);
+      sum = rw c.in-Some.is (c.add.ensures ∙ ap (plus binary32 (of32 c.args.self.sum)) times);
+      energy = rw c.in-Some.is (ap (λ (z : Float). add binary32 c.args.self.energy (mul binary32 c.in-Some.before.norm z)) size);
     }
