@@ -14,7 +14,7 @@ use Rattle.lists.specs.Fill.{joined_range}
 use Rattle.params.specs.declared.Mode.{Mode}
 use Rattle.params.specs.declared.SegmentKind.{SegmentKind}
 use Rattle.params.specs.declared.SegmentKind.TheVariants.{Coherent}
-use Rattle.params.specs.Params.{carriers_per_segment, kind_code}
+use Rattle.params.specs.Params.{carriers_per_segment, kind_code, kind_codes}
 use Rattle.params.specs.Laws.{sized}
 use Rattle.ofdm.specs.Band.{segment_at}
 use Rattle.ofdm.specs.Laws.{segment_ends}
