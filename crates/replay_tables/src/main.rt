@@ -10,11 +10,10 @@ use params::{Mode, SegmentKind};
 use replay::Stored;
 use std::io;
 use std::io::Stdin;
-use tables::Positions;
 use tally::Tally;
 
 // A row of the carrier tables, which are numbered in the order of the input.
-fn row_of(table: u8, mode: Mode, seg: usize) -> Positions
+fn row_of(table: u8, mode: Mode, seg: usize) -> &'static [u16]
     requires { seg < 13 }
 {
     match table {
@@ -30,22 +29,20 @@ fn wide(number: u16) -> u64 {
     number as u64
 }
 
-// Compares the first n places of a row with those that are stored.
-fn compare_row(row: Positions, n: usize, stored: &[u8], tally: Tally) -> Tally
-    requires { (n ≤ 20) × (2 * n ≤ length stored.now) }
+// Compares the first n places of a row, zeros behind its last, with those that are stored.
+fn compare_row(row: &[u16], n: usize, stored: &[u8], tally: Tally) -> Tally
+    requires { 2 * n ≤ length stored.now }
 {
-    let places = row.places;
     let mut t = tally;
-    let mut i: usize = 0;
-    while i < n {
-        t = t.entry(wide(places[i]) == replay::number_at(stored, 2 * i));
-        i += 1;
+    for i in 0..n {
+        let place = row.get(i).map_or(0, |p| wide(*p));
+        t = t.entry(place == replay::number_at(stored, 2 * i));
     }
     t
 }
 
 // The count of a row is stored in front of its places.
-fn check_row(input: Stdin, row: Positions, tally: Tally) -> Tally {
+fn check_row(input: Stdin, row: &[u16], tally: Tally) -> Tally {
     if tally.cut {
         return tally;
     }
@@ -60,7 +57,7 @@ fn check_row(input: Stdin, row: Positions, tally: Tally) -> Tally {
     if !replay::read_part(input, &mut room, 2 * n) {
         return tally.ended();
     }
-    compare_row(row, n, &room, tally.expect(n == row.count))
+    compare_row(row, n, &room, tally.expect(n == row.len()))
 }
 
 fn check_rows(input: Stdin, table: u8, mode: Mode, tally: Tally) -> Tally {
