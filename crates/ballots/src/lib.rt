@@ -83,7 +83,7 @@ impl Run {
             };
         }
         let w = self.value;
-        let sum = s.add(v.mul(w.conj()));
+        let sum = s + v * w.conj();
         let energy = self.energy + self.norm * norm;
         Run {
             joined: true,

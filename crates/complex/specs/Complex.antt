@@ -6,8 +6,7 @@ use Rattle.std.specs.Float.{Format, binary64}
 use Rattle.std.specs.Float.Ieee.{neg, add, sub, mul, div}
 use Rattle.root.specs.Root.{root_of}
 use Rattle.ieee.specs.Narrow.{narrow_of}
-use Rattle.complex.specs.declared.C32.{C32}
-use Rattle.complex.specs.declared.C64.{C64}
+use Rattle.complex.specs.declared.Complex.{Complex}
 
 pub record Pair : Type 0 where
   pub re : Float
@@ -16,11 +15,15 @@ pub record Pair : Type 0 where
 abbrev pub pair : Float → Float → Pair
 pair a b = record { re = a; im = b }
 
--- the pair that a C32 or a C64 holds
-abbrev pub of32 : C32 → Pair
+-- the pair that a complex number holds, where `value` says which float a part is
+abbrev pub of : {A : Type 0} → (A → Float) → Complex A → Pair
+of value x = pair (value x.re) (value x.im)
+
+-- that of a C32 or a C64, whose parts are floats
+abbrev pub of32 : Complex Float → Pair
 of32 x = pair x.re x.im
 
-abbrev pub of64 : C64 → Pair
+abbrev pub of64 : Complex Float → Pair
 of64 x = pair x.re x.im
 
 -- ---- the operations, rounded to the format f

@@ -1,105 +1,122 @@
 // Complex numbers: pairs of floats by value, with num-complex's names and order of operations, each
-// rounded once. C32 and C64 have the same operations; specs/ defines them once, for any format.
+// rounded once to the format of its parts. Generic over the two floats; the norms are each float's own.
 #![tactic(auto)]
 
 ghost use Rattle.std.specs.Prelude.{◌≡◌};
-ghost use Rattle.std.specs.Float.{binary32, binary64};
-ghost use Rattle.complex.specs.Complex.{pair, of32, of64, product, conjugate, plus, minus, squared_size, scaled, divided, norm32, norm64};
+ghost use Rattle.std.specs.Float.{binary64};
+ghost use Rattle.complex.specs.Complex.{pair, of, of32, of64, product, conjugate, plus, minus, squared_size, scaled, divided, norm32, norm64};
+
+use num_traits::Float;
+use std::ops::{Add, Mul, Sub};
 
 #[derive(Clone, Copy)]
-pub struct C32 {
-    pub re: f32,
-    pub im: f32,
+pub struct Complex<T> {
+    pub re: T,
+    pub im: T,
 }
 
-#[derive(Clone, Copy)]
-pub struct C64 {
-    pub re: f64,
-    pub im: f64,
-}
+pub type C32 = Complex<f32>;
 
-impl C32 {
-    pub fn new(re: f32, im: f32) -> C32
-        ensures { of32 result ≡ pair re im }
+pub type C64 = Complex<f64>;
+
+impl<T: Float> Complex<T> {
+    pub fn new(re: T, im: T) -> Complex<T>
+        ensures { of T.float result ≡ pair (T.float re) (T.float im) }
     {
-        C32 { re: re, im: im }
+        Complex { re, im }
     }
 
-    pub fn mul(self, other: C32) -> C32
-        ensures { of32 result ≡ product binary32 (of32 self) (of32 other) }
+    pub fn conj(self) -> Complex<T>
+        ensures { of T.float result ≡ conjugate (of T.float self) }
     {
-        C32 {
-            re: self.re * other.re - self.im * other.im, // ac - bd
-            im: self.re * other.im + self.im * other.re, // ad + bc
-        }
-    }
-
-    pub fn conj(self) -> C32
-        ensures { of32 result ≡ conjugate (of32 self) }
-    {
-        C32 {
+        Complex {
             re: self.re,
-            im: -self.im, // (a, -b)
+            im: -self.im, // a zero's sign too
         }
     }
 
-    pub fn add(self, other: C32) -> C32
-        ensures { of32 result ≡ plus binary32 (of32 self) (of32 other) }
-    {
-        C32 {
-            re: self.re + other.re,
-            im: self.im + other.im,
-        }
-    }
-
-    pub fn sub(self, other: C32) -> C32
-        ensures { of32 result ≡ minus binary32 (of32 self) (of32 other) }
-    {
-        C32 {
-            re: self.re - other.re,
-            im: self.im - other.im,
-        }
-    }
-
-    pub fn norm_sqr(self) -> f32
-        ensures { result ≡ squared_size binary32 (of32 self) }
+    pub fn norm_sqr(self) -> T
+        ensures { T.float result ≡ squared_size T.format (of T.float self) }
     {
         self.re * self.re + self.im * self.im
     }
 
-    pub fn scale(self, factor: f32) -> C32
-        ensures { of32 result ≡ scaled binary32 (of32 self) factor }
+    pub fn scale(self, factor: T) -> Complex<T>
+        ensures { of T.float result ≡ scaled T.format (of T.float self) (T.float factor) }
     {
-        C32 {
+        Complex {
             re: self.re * factor,
             im: self.im * factor,
         }
     }
 
-    pub fn unscale(self, divisor: f32) -> C32
-        ensures { of32 result ≡ divided binary32 (of32 self) divisor }
+    pub fn unscale(self, divisor: T) -> Complex<T>
+        ensures { of T.float result ≡ divided T.format (of T.float self) (T.float divisor) }
     {
-        C32 {
+        Complex {
             re: self.re / divisor,
             im: self.im / divisor,
         }
     }
+}
 
+impl<T: Float> Mul for Complex<T> {
+    type Output = Complex<T>;
+
+    ghost mul_gives = { λ x y z. of T.float z ≡ product T.format (of T.float x) (of T.float y) };
+
+    fn mul(self, other: Complex<T>) -> Complex<T> {
+        Complex {
+            re: self.re * other.re - self.im * other.im, // ac - bd
+            im: self.re * other.im + self.im * other.re, // ad + bc
+        }
+    }
+}
+
+impl<T: Float> Add for Complex<T> {
+    type Output = Complex<T>;
+
+    ghost add_gives = { λ x y z. of T.float z ≡ plus T.format (of T.float x) (of T.float y) };
+
+    fn add(self, other: Complex<T>) -> Complex<T> {
+        Complex {
+            re: self.re + other.re,
+            im: self.im + other.im,
+        }
+    }
+}
+
+impl<T: Float> Sub for Complex<T> {
+    type Output = Complex<T>;
+
+    ghost sub_gives = { λ x y z. of T.float z ≡ minus T.format (of T.float x) (of T.float y) };
+
+    fn sub(self, other: Complex<T>) -> Complex<T> {
+        Complex {
+            re: self.re - other.re,
+            im: self.im - other.im,
+        }
+    }
+}
+
+impl Complex<f32> {
     // The squared size in f64, where squares and sum neither overflow nor round to zero. The tests for
     // NaN take less time than `widen`, which keeps it.
+    #[tactic(auto, using(crate::proofs::Nans::of_re, crate::proofs::Nans::of_im))]
     pub fn wide_norm_sqr(self) -> f64
         ensures { result ≡ squared_size binary64 (of32 self) }
     {
-        if self.re != self.re {
-            return 0.0 / 0.0;
+        if self.re.is_nan() {
+            return f64::NAN;
         }
-        if self.im != self.im {
-            return 0.0 / 0.0;
+        if self.im.is_nan() {
+            return f64::NAN;
         }
         let x = C64::new(self.re as f64, self.im as f64);
         x.norm_sqr()
     }
 
+    #[tactic(auto, unfolding(crate::specs::Complex::norm32, crate::specs::Complex::norm64))]
     pub fn norm(self) -> f32
         ensures { result ≡ norm32 (of32 self) }
     {
@@ -110,79 +127,15 @@ impl C32 {
     pub fn widen(self) -> C64
         ensures { of64 result ≡ of32 self }
     {
-        let re = std::num::f32_to_f64_with_nan(self.re);
-        let im = std::num::f32_to_f64_with_nan(self.im);
-        C64 { re: re, im: im }
+        Complex {
+            re: f64::from(self.re),
+            im: f64::from(self.im),
+        }
     }
 }
 
-impl C64 {
-    pub fn new(re: f64, im: f64) -> C64
-        ensures { of64 result ≡ pair re im }
-    {
-        C64 { re: re, im: im }
-    }
-
-    pub fn mul(self, other: C64) -> C64
-        ensures { of64 result ≡ product binary64 (of64 self) (of64 other) }
-    {
-        C64 {
-            re: self.re * other.re - self.im * other.im,
-            im: self.re * other.im + self.im * other.re,
-        }
-    }
-
-    pub fn conj(self) -> C64
-        ensures { of64 result ≡ conjugate (of64 self) }
-    {
-        C64 {
-            re: self.re,
-            im: -self.im, // a zero's sign too
-        }
-    }
-
-    pub fn add(self, other: C64) -> C64
-        ensures { of64 result ≡ plus binary64 (of64 self) (of64 other) }
-    {
-        C64 {
-            re: self.re + other.re,
-            im: self.im + other.im,
-        }
-    }
-
-    pub fn sub(self, other: C64) -> C64
-        ensures { of64 result ≡ minus binary64 (of64 self) (of64 other) }
-    {
-        C64 {
-            re: self.re - other.re,
-            im: self.im - other.im,
-        }
-    }
-
-    pub fn norm_sqr(self) -> f64
-        ensures { result ≡ squared_size binary64 (of64 self) }
-    {
-        self.re * self.re + self.im * self.im
-    }
-
-    pub fn scale(self, factor: f64) -> C64
-        ensures { of64 result ≡ scaled binary64 (of64 self) factor }
-    {
-        C64 {
-            re: self.re * factor,
-            im: self.im * factor,
-        }
-    }
-
-    pub fn unscale(self, divisor: f64) -> C64
-        ensures { of64 result ≡ divided binary64 (of64 self) divisor }
-    {
-        C64 {
-            re: self.re / divisor,
-            im: self.im / divisor,
-        }
-    }
-
+impl Complex<f64> {
+    #[tactic(auto, unfolding(crate::specs::Complex::norm64))]
     pub fn norm(self) -> f64
         ensures { result ≡ norm64 (of64 self) }
     {

@@ -30,7 +30,7 @@ pub fn write_prefixes(samples: &[f32], n: usize, scratch: &mut [f64])
     while i < len {
         let a = spectra::pair_at(samples, i);
         let b = spectra::pair_at(samples, i + n);
-        let p = a.mul(b.conj()).widen();
+        let p = (a * b.conj()).widen();
         re = re + p.re;
         im = im + p.im;
         let both = std::num::f32_to_f64_with_nan(a.norm_sqr() + b.norm_sqr());

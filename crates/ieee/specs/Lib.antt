@@ -7,6 +7,7 @@ pub mod Values
 pub mod Zeros
 pub mod Times
 pub mod Order
+pub mod Nans
 pub mod Levels
 pub mod Gain
 pub mod Sums

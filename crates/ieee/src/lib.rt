@@ -14,39 +14,19 @@ pub const NEGATIVE_ZERO: f32 = -0.0;
 // Rust's `f32::MIN`, the finite f32 farthest below zero.
 pub const F32_MIN: f32 = -3.4028235e38;
 
-// m / p to the nearest whole number, a tie to the even one.
+// m / p to the nearest whole number, a tie to the even one, with no branch: twice the rest is above p, or
+// it is p and the quotient is odd.
 fn closest(m: u64, p: u64) -> u64
     requires { (0 < p) × (p < 9223372036854775808) × (m < 9007199254740992) }
     ensures { result ≡ Nearest.closest m p }
 {
     let q = m / p;
-    let t = m % p * 2;
-    if t < p {
-        return q;
-    }
-    if t == p {
-        return q + q % 2;
-    }
-    q + 1
-}
-
-// m / 2^29 to the nearest whole number, a tie to the even one, with no branch.
-fn closest_29(m: u64) -> u64
-    requires { m < 9007199254740992 }
-    ensures { result ≡ Nearest.closest m 536870912 }
-{
-    (m + 0xfff_ffff + m / 0x2000_0000 % 2) / 0x2000_0000
-}
-
-fn power(d: u64) -> u64
-    requires { d < 64 }
-    ensures { result ≡ 2 ^ d }
-{
-    1u64 << d
+    q + (p < m % p * 2 + q % 2) as u64
 }
 
 // The bits of the f32 nearest to the f64 whose bits are b, both without their sign. The digits that
 // round up carry into the exponent, and on to infinity, by themselves.
+#[tactic(auto, using(crate::specs::Narrowing::narrow_zero, crate::specs::Narrowing::narrow_over))]
 fn narrow_bits(b: u64) -> u32
     requires { b ≤ 9218868437227405312 }
     ensures { Narrowed b result }
@@ -60,22 +40,19 @@ fn narrow_bits(b: u64) -> u32
     }
     let m = b % 0x10_0000_0000_0000 + 0x10_0000_0000_0000;
     if e < 897 {
-        let q = closest(m, power(926 - e));
-        return q as u32;
+        return closest(m, 1 << (926 - e)) as u32;
     }
-    let q = closest_29(m);
-    let r = (e - 897) * 0x80_0000 + q;
-    r as u32
+    ((e - 897) * 0x80_0000 + closest(m, 1 << 29)) as u32
 }
 
 // The f32 nearest to x, a tie to the even one: Rust's `x as f32`.
 pub fn narrow(x: f64) -> f32
     ensures { result ≡ narrow_of x }
 {
-    if x != x {
-        return 0.0 / 0.0;
+    if x.is_nan() {
+        return f32::NAN;
     }
-    let b = f64::to_bits(x);
+    let b = x.to_bits();
     if b < 0x8000_0000_0000_0000 {
         return f32::from_bits(narrow_bits(b));
     }

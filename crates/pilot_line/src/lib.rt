@@ -51,7 +51,7 @@ fn mean_value(win: Window, sent: Sent, spectra: &[f32], k: BandCarrier, inverse:
     let mut sum = C32::new(0.0, 0.0);
     let mut i: usize = 0;
     while i < sent.count {
-        sum = sum.add(value_in(win, spectra, k, sent.spectrum(i), inverse));
+        sum = sum + value_in(win, spectra, k, sent.spectrum(i), inverse);
         i += 1;
     }
     sum.unscale(sent.count as f32)
@@ -73,8 +73,8 @@ fn slope_sum(
     let mut i: usize = 0;
     while i < times.sent.count {
         let s = times.sent.spectrum(i);
-        let v = value_in(win, spectra, k, s, inverse).sub(middle);
-        slope = slope.add(v.scale(pilot_times::offset(win, s) - times.mean));
+        let v = value_in(win, spectra, k, s, inverse) - middle;
+        slope = slope + v.scale(pilot_times::offset(win, s) - times.mean);
         i += 1;
     }
     slope
@@ -94,7 +94,7 @@ fn ls_line_at_zero(win: Window, times: Times, spectra: &[f32], k: BandCarrier, i
         return middle;
     }
     let slope = slope_sum(win, times, middle, spectra, k, inverse).unscale(times.spread);
-    middle.add(slope.scale(0.0 - times.mean))
+    middle + slope.scale(0.0 - times.mean)
 }
 
 // The estimate at carrier k. Where no spectrum of the window has its pilot, the carrier is taken as the

@@ -43,10 +43,9 @@ impl BinSums {
     pub fn step(self, x: C32, y: C32) -> BinSums
         ensures { Stepped self (of32 x) (of32 y) result }
     {
-        let p = x.mul(y.conj());
-        let n = self.num;
+        let p = x * y.conj();
         BinSums {
-            num: n.add(p.mul(p)),
+            num: self.num + p * p,
             den: self.den + p.norm_sqr(),
         }
     }
@@ -60,7 +59,7 @@ impl BinSums {
         let mut den = self.den;
         let mut i: usize = 0;
         while i < n {
-            num = num.add(spectra::pair_at(squares, i));
+            num = num + spectra::pair_at(squares, i);
             den = den + sizes[i];
             i += 1;
         }
@@ -111,8 +110,8 @@ fn put_terms(pairs: &[f32], from: usize, n: usize, squares: &mut [f32], sizes: &
     while i < n {
         let y = spectra::pair_at(pairs, from + i);
         let x = spectra::pair_at(pairs, from + i + 1);
-        let p = x.mul(y.conj());
-        spectra::put_pair(squares, i, p.mul(p));
+        let p = x * y.conj();
+        spectra::put_pair(squares, i, p * p);
         sizes[i] = p.norm_sqr();
         i += 1;
     }

@@ -1,15 +1,14 @@
 -- Bytes that are taken piece by piece do what they do in one; the whole input and then its last line give what `segments` prints.
 -- Assumes nothing.
-use Rattle.std.specs.Prelude.{ℕ, ◌≤◌, List, [], ◌∷◌, ◌++◌, ◌≡◌, length, take, drop}
+use Rattle.std.specs.Prelude.{ℕ, ◌≤◌, List, [], ◌∷◌, ◌++◌, ◌≡◌, Result, Err, length, take, drop}
 use Rattle.std.proofs.Common.{append-nil, sym, ap, subst, ◌∙◌, eq-eqb, ne_eqb, take-append-drop, take_all, take-take}
 use Rattle.std.proofs.Math.Seq.{slice}
 use Rattle.open_line.specs.declared.Line.{Line}
 use Rattle.segment_answer.specs.Answer.{line_answer, last_answer}
 use Rattle.segment_list.specs.Prints.{printed, open_after, segments_prints}
 use Rattle.open_line.specs.Gather.{Gathers}
-use Rattle.text.specs.declared.Fit.{Fit}
-use Rattle.text.specs.declared.Fit.TheVariants.{Cut}
-use Rattle.text.specs.Put.{Put, PutCut}
+use Rattle.text.specs.declared.Cut.{Cut}
+use Rattle.text.specs.Put.{Put, PutCut, cut}
 use Rattle.text.specs.Laws.{then, put_none, put_as, put_read, cut_as, cut_then, cut_before}
 use Rattle.segment_list.specs.Feed.{Leaves, Takes}
 use Rattle.segment_list.specs.Printed.{printed_pieces, open_pieces, prints_front}
@@ -78,7 +77,7 @@ pub takes_copied : {line line' : Line} {bytes piece piece' out out' : List ℕ} 
 takes_copied p h q = record { prints = λ s g. put_as (sym (put_read (p.prints s g) h)) q; leaves = p.leaves }
 
 -- the whole input and then its last line: what `segments` prints
-pub takes_all : {line line' : Line} {input out mid end : List ℕ} {at a : ℕ} {r : Fit} → Gathers line [] → Takes line input out at line' a mid → a ≤ length out
+pub takes_all : {line line' : Line} {input out mid end : List ℕ} {at a : ℕ} {r : Result ℕ Cut} → Gathers line [] → Takes line input out at line' a mid → a ≤ length out
     → ((s : List ℕ) → Gathers line' s → PutCut mid a (last_answer s) r end) → PutCut out at (segments_prints input) r end
 unfolding segments_prints
 takes_all {line} {line'} {input} g p h q = cut_then (p.prints [] g) h (q (open_after [] input) (p.leaves [] g))
@@ -86,7 +85,7 @@ takes_all {line} {line'} {input} g p h q = cut_then (p.prints [] g) h (q (open_a
 -- the front of the input, and a piece of it that is cut off
 pub takes_cut : {line held line' : Line} {piece piece' out mid end : List ℕ} {at a n : ℕ} (input : List ℕ) (from to : ℕ) → from ≤ to → Gathers line []
     → Takes line (take from input) out at held a mid → a ≤ length out → Takes held (slice from to input) piece 0 line' n piece' → n ≤ length piece
-    → PutCut mid a (take n piece') Cut end → PutCut out at (segments_prints input) Cut end
+    → PutCut mid a (take n piece') (Err cut) end → PutCut out at (segments_prints input) (Err cut) end
 takes_cut {line} {held} {line'} {piece} {piece'} {out} {mid} {end} {at} {a} {n} input from to l g p h q m c =
     let s = open_after [] (take from input) in
     let text : take n piece' ≡ printed s (slice from to input) = put_read (q.prints s (p.leaves [] g)) m in

@@ -8,7 +8,7 @@ ghost use Rattle.segment_list.specs.Prints.{segments_prints};
 ghost use Rattle.segment_list.specs.Feed.{Takes, Feeds};
 
 use open_line::{Line, answer_line, finish};
-use text::{Fit, put_cut};
+use text::{Cut, put_cut};
 
 // Room for the answer to any line.
 pub const ANSWER: usize = 512;
@@ -90,7 +90,7 @@ pub fn feed(line: Line, input: &[u8], from: usize, out: &mut [u8], at: usize) ->
 }
 
 // Stores what `segments` prints for a whole input, by way of a buffer for one piece after another.
-fn answer_pieces(input: &[u8], piece: &mut [u8], out: &mut [u8]) -> Fit
+fn answer_pieces(input: &[u8], piece: &mut [u8], out: &mut [u8]) -> Result<usize, Cut>
     requires { 512 ≤ length piece.old }
     ensures { PutCut out.old 0 (segments_prints input.now) result out.new }
 {
@@ -99,12 +99,9 @@ fn answer_pieces(input: &[u8], piece: &mut [u8], out: &mut [u8]) -> Fit
     let mut to: usize = 0;
     while from < input.len() {
         let fed = feed(held, input, from, piece, 0);
-        let Fit::Whole(next) = put_cut(out, to, piece, fed.written) else {
-            return Fit::Cut;
-        };
+        to = put_cut(out, to, piece, fed.written)?;
         held = fed.line;
         from = fed.used;
-        to = next;
     }
     let n = finish(held, piece, 0);
     put_cut(out, to, piece, n)
@@ -112,7 +109,7 @@ fn answer_pieces(input: &[u8], piece: &mut [u8], out: &mut [u8]) -> Fit
 
 // Stores what `segments` prints for a whole input, from the start of the buffer and as far as it
 // goes. The program does the same with input that it reads in turns.
-pub fn answer_all(input: &[u8], out: &mut [u8]) -> Fit
+pub fn answer_all(input: &[u8], out: &mut [u8]) -> Result<usize, Cut>
     ensures { PutCut out.old 0 (segments_prints input.now) result out.new }
 {
     let mut piece = [0u8; ANSWER];

@@ -40,6 +40,7 @@ fn put_few(out: &mut [u8], at: usize, n: usize) -> usize
 
 // A number in decimal digits: four at most, and at most 1 + n / 10. A line's room is counted from
 // these two bounds.
+#[tactic(auto, using(crate::specs::Laws::then, crate::proofs::Numbered::decimal_more), unfolding(crate::specs::Decimal::decimal))]
 pub fn put_decimal(out: &mut [u8], at: usize, n: usize) -> usize
     requires { (at + 4 ≤ length out.old) × (n < 10000) }
     ensures put { Put out.old at (decimal n) result out.new }
@@ -66,35 +67,30 @@ pub fn put_number(out: &mut [u8], at: usize, n: usize, behind: u8) -> usize
 }
 
 // Text that is stored as it is.
+#[tactic(auto, using(crate::proofs::Numbered::put_copied))]
 pub fn put_text(out: &mut [u8], at: usize, text: &[u8]) -> usize
     requires { at + length text.now ≤ length out.old }
     ensures { Put out.old at text.now result out.new }
 {
-    let mut to = at;
-    let mut i: usize = 0;
-    while i < text.len() {
-        to = put_byte(out, to, text[i]);
-        i += 1;
-    }
-    to
+    let end = at + text.len();
+    out[at..end].copy_from_slice(text);
+    end
 }
 
-// Text that a buffer takes as far as it goes: the index behind all of it, or that its end is cut off.
-#[derive(Clone, Copy)]
-pub enum Fit {
-    Whole(usize),
-    Cut,
-}
+// What a text meets whose end has no room.
+#[derive(Clone, Copy, Debug, PartialEq, Eq)]
+pub struct Cut;
 
-// The first n bytes of a text, stored as far as the buffer goes.
-pub fn put_cut(out: &mut [u8], at: usize, text: &[u8], n: usize) -> Fit
+// The first n bytes of a text, stored as far as the buffer goes: the index behind all of them, or that
+// their end is cut off.
+pub fn put_cut(out: &mut [u8], at: usize, text: &[u8], n: usize) -> Result<usize, Cut>
     requires { (at ≤ length out.old) × (n ≤ length text.now) }
     ensures { PutCut out.old at (take n text.now) result out.new }
 {
     let room = out.len() - at;
     if room < n {
         put_text(out, at, &text[..room]);
-        return Fit::Cut;
+        return Err(Cut);
     }
-    Fit::Whole(put_text(out, at, &text[..n]))
+    Ok(put_text(out, at, &text[..n]))
 }

@@ -40,7 +40,7 @@ fn add_places(start: f32, mode: Mode, place: BandPlace, places: &[u16], spectra:
         let k = ofdm::band_carrier(mode, place, SegmentPlace(places[i] as usize));
         let later = spectra::pair_at(spectra, len + k.0);
         let earlier = spectra::pair_at(spectra, k.0);
-        let p = later.mul(earlier.conj());
+        let p = later * earlier.conj();
         sum = sum + p.re;
         i += 1;
     }
