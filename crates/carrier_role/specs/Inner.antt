@@ -1,20 +1,12 @@
 -- What the inner functions take and give on the way to the answer. No operation's contract cites these.
 -- Definitions only.
-use Rattle.std.specs.Prelude.{ℕ, ◌≤◌, false}
+use Rattle.std.specs.Prelude.{ℕ, false}
 use Rattle.lists.specs.Tests.{memb}
-use Rattle.lists.specs.Select.{Ascending}
 use Rattle.params.specs.declared.Mode.{Mode}
 use Rattle.params.specs.declared.SegmentKind.{SegmentKind}
-use Rattle.tables.specs.declared.Positions.{Positions}
 use Rattle.tables.specs.Places.{tmcc_of, ac1_of, ac2_of}
-use Rattle.tables.specs.Fronts.{front}
 use Rattle.frame.specs.declared.CarrierRole.{CarrierRole}
 use Rattle.frame.specs.Roles.{first_claim}
-
--- a row that has room for its entries, which ascend
-pub record Searchable (row : Positions) : Type 0 where
-  pub count : row.count ≤ 20
-  pub ascending : Ascending (front row)
 
 -- the role of a place that no pilot claims
 abbrev pub table_role : Mode → SegmentKind → ℕ → ℕ → CarrierRole

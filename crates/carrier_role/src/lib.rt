@@ -5,33 +5,28 @@
 
 ghost use Rattle.std.specs.Prelude.{◌≡◌, ◌<◌};
 ghost use Rattle.lists.specs.Tests.{memb};
+ghost use Rattle.lists.specs.Select.{Ascending};
 ghost use Rattle.params.specs.Params.{mode_from, total_carriers};
-ghost use Rattle.tables.specs.Fronts.{front};
 ghost use Rattle.frame.specs.Roles.{ofdm_segment, place_role, role_at, wide};
-ghost use Rattle.carrier_role.specs.Inner.{table_role, Searchable};
+ghost use Rattle.carrier_role.specs.Inner.{table_role};
 ghost use Rattle.carrier_role.specs.CarrierRole.{RoleTold};
 
 use frame::{AcKind, CarrierRole, FrameLayout};
 use ofdm::{BandCarrier, BandPlace, Segment, SegmentPlace};
 use params::{Mode, SegmentKind};
-use tables::Positions;
 
 // Whether a row of a table has a place. A row ascends, so the first entry that is not below the place
 // decides.
-fn has_place(row: Positions, p: SegmentPlace) -> bool
-    requires { Searchable row }
-    ensures { result ≡ memb p.0 (front row) }
+fn has_place(row: &[u16], p: SegmentPlace) -> bool
+    requires { Ascending row.now }
+    ensures { result ≡ memb p.0 row.now }
 {
-    let places = row.places;
-    let n = row.count;
     let wanted = p.0;
-    let mut i: usize = 0;
-    while i < n {
-        let entry = places[i] as usize;
+    for place in row {
+        let entry = *place as usize;
         if wanted <= entry {
             return entry == wanted;
         }
-        i += 1;
     }
     false
 }

@@ -4,11 +4,10 @@ use Prim.Native.Nat.{ℕ, ◌+◌, ◌≤◌, ◌<◌}
 use mathlib.Core.Bool.{Bool, true, false, cond}
 use mathlib.Core.List.{List}
 use mathlib.Core.Path.{◌≡◌, refl, sym, ap, ◌∙◌}
-use native.Mathlib.Omega.{arith}
 use borrow.Author.Tests.{le-leb, eqb-true}
 use lib.Dec.{leb, eqb}
 use lib.ListN.{length, get_or}
-use lib.Seq.{get_or-take, ext_get_or}
+use lib.Seq.{ext_get_or}
 use Rattle.lists.specs.Lists.{up_to}
 use Rattle.lists.specs.Tests.{memb}
 use Rattle.lists.specs.Truth.{always5_at}
@@ -16,26 +15,17 @@ use Rattle.lists.specs.Select.{length_up_to, get_or_up_to}
 use Rattle.params.specs.declared.Mode.{Mode}
 use Rattle.params.specs.declared.SegmentKind.{SegmentKind}
 use Rattle.params.specs.Params.{carriers_per_segment}
-use Rattle.tables.specs.declared.Positions.{Positions}
-use Rattle.tables.specs.Places.{Listed, tmcc_of, ac1_of, ac2_of, is_sp, is_cp, one, claims}
-use Rattle.tables.specs.Rule.{apart, tmcc_below, ac1_below, ac2_below, tmcc_short, ac1_short, ac2_short}
+use Rattle.tables.specs.Places.{tmcc_of, ac1_of, ac2_of, is_sp, is_cp, one, claims}
+use Rattle.tables.specs.Rule.{apart, tmcc_below, ac1_below, ac2_below}
 use Rattle.frame.specs.declared.AcKind.TheVariants.{Ac1, Ac2}
 use Rattle.frame.specs.declared.CarrierRole.TheVariants.{Tmcc, Ac}
 use Rattle.frame.specs.Roles.{OfdmSegment, ofdm_segment, role_byte, first_claim, place_role, segment_roles}
-use Rattle.frame.specs.Inner.{pilot_byte, marked_at, marked, Markable, InSegment}
-use Rattle.frame.proofs.Marked.{length_marked, marked_at_lem}
+use Rattle.frame.specs.Inner.{pilot_byte, marked, Markable, InSegment}
+use Rattle.frame.proofs.Marked.{length_marked, marked_at}
 
 -- a row of the tables may be marked
-markable : (r : Positions) (xs out : List ℕ) (n : ℕ) → Listed r xs → length xs ≤ 20 → ((i : ℕ) → i < length xs → get_or xs i 0 < n)
-    → length out ≡ n → Markable r out
-markable r xs out n l short below e =
-    record {
-      count = omega (arith, l.count);
-      within = λ i h.
-          let same : get_or xs i 0 ≡ get_or r.places i 0 = ap (λ (z : List ℕ). get_or z i 0) (sym l.places) ∙ get_or-take r.count r.places i 0 h in
-          let b : get_or xs i 0 < n = below i (omega (arith, l.count)) in
-          omega arith;
-    }
+markable : {row xs : List ℕ} (out : List ℕ) (n : ℕ) → row ≡ xs → ((i : ℕ) → i < length xs → get_or xs i 0 < n) → length out ≡ n → Markable row out
+markable out n same below e = rw same (record { within = λ i h. rw e (below i h) })
 
 -- the byte of a place as the code comes by it, the last row that was marked asked first; of at most one claim the order does not matter
 abbrev last_first : Bool → Bool → Bool → Bool → Bool → ℕ
@@ -63,13 +53,13 @@ module _ (mode : Mode) (s : OfdmSegment) (phase : ℕ) (in_table : s.row < 13) (
   ac2 = ac2_of mode s.kind s.row
 
   abbrev marked1 : List ℕ
-  marked1 = marked_at tmcc (role_byte Tmcc) pilots
+  marked1 = marked tmcc (role_byte Tmcc) pilots
 
   abbrev marked2 : List ℕ
-  marked2 = marked_at ac1 (role_byte (Ac Ac1)) marked1
+  marked2 = marked ac1 (role_byte (Ac Ac1)) marked1
 
   abbrev marked3 : List ℕ
-  marked3 = marked_at ac2 (role_byte (Ac Ac2)) marked2
+  marked3 = marked ac2 (role_byte (Ac Ac2)) marked2
 
   length0 : length pilots ≡ carriers_per_segment mode
   length0 = length_up_to _ (carriers_per_segment mode)
@@ -91,9 +81,9 @@ module _ (mode : Mode) (s : OfdmSegment) (phase : ℕ) (in_table : s.row < 13) (
           → get_or marked3 p 0 ≡ get_or (up_to (λ q. role_byte (place_role mode s phase q)) (carriers_per_segment mode)) p 0
       at p h =
           rw (
-            marked_at_lem ac2 (role_byte (Ac Ac2)) marked2 p (rw length2 h),
-            marked_at_lem ac1 (role_byte (Ac Ac1)) marked1 p (rw length1 h),
-            marked_at_lem tmcc (role_byte Tmcc) pilots p (rw length0 h),
+            marked_at ac2 (role_byte (Ac Ac2)) marked2 p (rw length2 h),
+            marked_at ac1 (role_byte (Ac Ac1)) marked1 p (rw length1 h),
+            marked_at tmcc (role_byte Tmcc) pilots p (rw length0 h),
             get_or_up_to (pilot_byte s.kind phase) (carriers_per_segment mode) p 0 h,
             get_or_up_to (λ q. role_byte (place_role mode s phase q)) (carriers_per_segment mode) p 0 h,
           )
@@ -106,27 +96,27 @@ module _ (mode : Mode) (seg : ℕ) (kind : SegmentKind) (phase : ℕ) (old : Lis
     size0 : length out ≡ carriers_per_segment mode
     size0 = ap length w ∙ (length_up_to _ (length old) ∙ i.room)
 
-    module _ (r1 : Positions) (l1 : Listed r1 (tmcc_of mode kind seg)) where
+    module _ (r1 : List ℕ) (l1 : r1 ≡ tmcc_of mode kind seg) where
       pub tmcc_markable : Markable r1 out
-      tmcc_markable = markable _ _ _ _ l1 (tmcc_short mode kind seg i.row_below) (tmcc_below mode kind seg i.row_below) size0
+      tmcc_markable = markable _ _ l1 (tmcc_below mode kind seg i.row_below) size0
 
       module _ (out1 : List ℕ) (m1 : out1 ≡ marked r1 (role_byte Tmcc) out) where
         size1 : length out1 ≡ carriers_per_segment mode
         size1 = ap length m1 ∙ (length_marked _ _ _ ∙ size0)
 
-        module _ (r2 : Positions) (l2 : Listed r2 (ac1_of mode kind seg)) where
+        module _ (r2 : List ℕ) (l2 : r2 ≡ ac1_of mode kind seg) where
           pub ac1_markable : Markable r2 out1
-          ac1_markable = markable _ _ _ _ l2 (ac1_short mode kind seg i.row_below) (ac1_below mode kind seg i.row_below) size1
+          ac1_markable = markable _ _ l2 (ac1_below mode kind seg i.row_below) size1
 
           module _ (out2 : List ℕ) (m2 : out2 ≡ marked r2 (role_byte (Ac Ac1)) out1) where
-            module _ (r3 : Positions) (l3 : Listed r3 (ac2_of mode kind seg)) where
+            module _ (r3 : List ℕ) (l3 : r3 ≡ ac2_of mode kind seg) where
               pub ac2_markable : Markable r3 out2
               ac2_markable =
-                  markable _ _ _ _ l3 (ac2_short mode kind seg i.row_below) (ac2_below mode kind seg i.row_below)
+                  markable _ _ l3 (ac2_below mode kind seg i.row_below)
                   (ap length m2 ∙ (length_marked _ _ _ ∙ size1))
 
               pub all_marked : (out3 : List ℕ) → out3 ≡ marked r3 (role_byte (Ac Ac2)) out2 → out3 ≡ segment_roles mode phase (ofdm_segment seg kind)
               all_marked out3 m3 =
                   m3
-                  ∙ (rw (l3.places, m2, l2.places, m1, l1.places, w, i.room)
+                  ∙ (rw (l3, m2, l2, m1, l1, w, i.room)
                   (rows_marked mode (ofdm_segment seg kind) phase i.row_below i.phase_below))

@@ -1,14 +1,13 @@
 -- What the inner functions write and take on the way to an operation's answer. No operation's contract cites these; the laws that lead
 -- from them to `Roles` are in proofs/.
 -- Definitions only.
-use Rattle.std.specs.Prelude.{ℕ, ◌≤◌, ◌<◌, false, List, [], ◌∷◌, ◌≡◌, length, get_or, take, set}
+use Rattle.std.specs.Prelude.{ℕ, ◌<◌, false, List, [], ◌∷◌, ◌≡◌, length, get_or, set}
 use Rattle.lists.specs.Refusals.{unless}
 use Rattle.params.specs.declared.Mode.{Mode}
 use Rattle.params.specs.declared.ModeNumber.{ModeNumber}
 use Rattle.params.specs.declared.ModeNumber.TheVariants.{Known}
 use Rattle.params.specs.declared.SegmentKind.{SegmentKind}
 use Rattle.params.specs.Params.{carriers_per_segment}
-use Rattle.tables.specs.declared.Positions.{Positions}
 use Rattle.tables.specs.Places.{is_sp, is_cp}
 use Rattle.frame.specs.Roles.{role_byte, first_claim}
 use Rattle.frame.specs.Operations.{are_kinds, held_kinds, layout_code, layout_mode, layout_kinds}
@@ -18,17 +17,13 @@ abbrev pub pilot_byte : SegmentKind → ℕ → ℕ → ℕ
 pilot_byte kind phase p = role_byte (first_claim (is_sp kind phase p) (is_cp kind p) false false false)
 
 -- out with role at each of the places
-unfoldable pub marked_at : List ℕ → ℕ → List ℕ → List ℕ
-marked_at [] role out = out
-marked_at (p ∷ ps) role out = marked_at ps role (set out p role)
-
-abbrev pub marked : Positions → ℕ → List ℕ → List ℕ
-marked row role out = marked_at (take row.count row.places) role out
+unfoldable pub marked : List ℕ → ℕ → List ℕ → List ℕ
+marked [] role out = out
+marked (p ∷ ps) role out = marked ps role (set out p role)
 
 -- each place of the row lies within out
-pub record Markable (row : Positions) (out : List ℕ) : Type 0 where
-  pub count : row.count ≤ 20
-  pub within : (i : ℕ) → i < row.count → get_or row.places i 0 < length out
+pub record Markable (row out : List ℕ) : Type 0 where
+  pub within : (i : ℕ) → i < length row → get_or row i 0 < length out
 
 -- a segment of the tables, a phase, and room for the segment's carriers
 pub record InSegment (mode : Mode) (row phase : ℕ) (out : List ℕ) : Type 0 where

@@ -18,7 +18,6 @@ ghost use Rattle.frame.specs.Operations.{RoleMap};
 
 use ofdm::{BandPlace, Segment, SegmentPlace};
 use params::{Mode, ModeNumber, SegmentKind};
-use tables::Positions;
 
 // Role bytes.
 pub const DATA: u8 = 0;
@@ -116,17 +115,12 @@ fn write_pilots(kind: SegmentKind, phase: u8, out: &mut [u8])
 }
 
 // Gives the places of a table's row a role.
-fn mark(row: Positions, role: u8, out: &mut [u8])
-    requires { Markable row out.old }
-    ensures { out.new ≡ marked row role out.old }
+fn mark(row: &[u16], role: u8, out: &mut [u8])
+    requires { Markable row.now out.old }
+    ensures { out.new ≡ marked row.now role out.old }
 {
-    let places = row.places;
-    let n = row.count;
-    let mut i: usize = 0;
-    while i < n {
-        let p = places[i] as usize;
-        out[p] = role;
-        i += 1;
+    for place in row {
+        out[*place as usize] = role;
     }
 }
 

@@ -1,7 +1,6 @@
 -- What `skipped` and `sent_in` work out: how many offsets lie before the window, and how many of the others in it.
 -- Assumes nothing.
-use Prim.Native.Nat.{ℕ, suc, ◌+◌, ◌-◌, ◌*◌, ◌/◌, ◌≤◌, ◌<◌}
-use mathlib.Core.Logic.{◌⊎◌, ⊎_elim}
+use Prim.Native.Nat.{ℕ, ◌+◌, ◌-◌, ◌*◌, ◌/◌, ◌≤◌, ◌<◌, min}
 use mathlib.Core.Path.{◌≡◌}
 use native.Mathlib.Nat.{mul-le-mul_left, lt-mul-div-succ, mul-div-le, div-le_self}
 use native.Mathlib.Omega.{arith}
@@ -16,22 +15,6 @@ use Rattle.pilot_times.specs.Reaching.{Met, window}
 
 pub room_fits : (x step : ℕ) → x < 1024 → Fits w64 (x / step + 1)
 room_fits x step h = omega (arith, div-le_self x step)
-
--- ---- the offsets before the window
-pub skip_none : (t : ℕ) (o : Offsets) → o.before ≤ t → Skipped t o 0
-skip_none t o h = record { ahead = λ i l. absurd (omega arith); covered = omega arith; near = omega arith }
-
-pub skip_some : (t : ℕ) (o : Offsets) → 0 < o.step → t < o.before → Skipped t o ((o.before - t + o.step - 1) / o.step)
-skip_some t o p h =
-    let step = o.step in
-    let x : ℕ = o.before - t + step - 1 in
-    let l : x < step * (x / step + 1) = lt-mul-div-succ x p in
-    let u : step * (x / step) ≤ x = mul-div-le x step in
-    record {
-      ahead = λ i k. let m : step * suc i ≤ step * (x / step) = mul-le-mul_left step k in omega arith;
-      covered = omega arith;
-      near = omega arith;
-    }
 
 -- ---- the others
 abbrev sent_from : ℕ → ℕ → ℕ → Sent
@@ -70,11 +53,10 @@ module _ (win : Window) (o : Offsets) (h : Searchable win o) where
     all_behind l b = none s (omega arith) k.ahead (λ i p q. omega (arith, mul-le-mul_left o.step p, k.covered, h.current))
 
     -- m of them: as many as there are, or as the window has room for
-    pub some_inside : (m : ℕ) → s < o.count → t + o.step * s - o.before < win.count → m ≤ o.count - s
-        → m ≤ (win.count - 1 - (t + o.step * s - o.before)) / o.step + 1
-        → (o.count - s ≤ m) ⊎ ((win.count - 1 - (t + o.step * s - o.before)) / o.step + 1 ≤ m)
+    pub some_inside : (m : ℕ) → s < o.count → t + o.step * s - o.before < win.count
+        → m ≡ min ((win.count - 1 - (t + o.step * s - o.before)) / o.step + 1) (o.count - s)
         → Reached win o (sent_from (t + o.step * s - o.before) o.step m)
-    some_inside m l b u v w =
+    some_inside m l b e =
         let step = o.step in
         let first : ℕ = t + step * s - o.before in
         let x : ℕ = win.count - 1 - first in
@@ -86,11 +68,7 @@ module _ (win : Window) (o : Offsets) (h : Searchable win o) where
           ahead = k.ahead;
           start = λ p. omega (arith, k.covered);
           inside = λ i p. let q : i ≤ x / step = omega arith in omega (arith, mul-le-mul_left step q);
-          behind = λ i p q.
-              ⊎_elim
-              (λ a. absurd (omega arith))
-              (λ a. let z : s + (x / step + 1) ≤ i = omega arith in omega (arith, mul-le-mul_left step z, k.covered))
-              w;
+          behind = λ i p q. let z : s + (x / step + 1) ≤ i = omega arith in omega (arith, mul-le-mul_left step z, k.covered);
         })
         (omega (arith, div-le_self x step)) (omega arith)
 

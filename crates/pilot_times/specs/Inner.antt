@@ -1,6 +1,9 @@
 -- The words of the contracts inside this crate, and of what `pilot_line` and `chanest` call.
 -- Definitions only.
-use Rattle.std.specs.Prelude.{ℕ, ◌+◌, ◌*◌, ◌≤◌, ◌<◌, List, map, ◌≡◌, Float}
+use Rattle.std.specs.Prelude.{ℕ, ◌+◌, ◌*◌, ◌≤◌, ◌<◌, List, map, ◌≡◌, Float, get_or, from_bits}
+use Rattle.std.specs.List.{fold, range_with_len}
+use Rattle.std.specs.Float.{binary32}
+use Rattle.std.specs.Float.Ieee.{add, neg}
 use Rattle.lists.specs.Lists.{up_to}
 use Rattle.pilot_times.specs.declared.Current.{Current}
 use Rattle.pilot_times.specs.declared.Window.{Window}
@@ -53,6 +56,10 @@ pub record Reached (win : Window) (o : Offsets) (s : Sent) : Type 0 where
   pub spectra : spectra_of s ≡ in_window win o
   pub inside : Inside win.count s
 
+-- the sum of g over them, as std's `sum` adds: from -0.0
+abbrev pub sum_at : (ℕ → Float) → Sent → Float
+sum_at g s = fold (λ a x. add binary32 a x) (neg (from_bits binary32 0)) (map (λ i. g (spectrum_of s i)) (range_with_len 0 s.count))
+
 -- ---- their offsets from the current spectrum
 abbrev pub offsets_of : Window → Sent → List Float
 offsets_of win s = map (offset_of win) (spectra_of s)
@@ -76,11 +83,8 @@ pub record Usable (win : Window) : Type 0 where
 abbrev pub ScatteredAgo : Window → ℕ → Times → Type 0
 ScatteredAgo win back r = TimesOf win (scattered_offsets win.current back) r
 
-pub record ScatteredTimes (win : Window) (r : Scattered) : Type 0 where
-  pub ago0 : ScatteredAgo win 0 r.ago0
-  pub ago1 : ScatteredAgo win 1 r.ago1
-  pub ago2 : ScatteredAgo win 2 r.ago2
-  pub ago3 : ScatteredAgo win 3 r.ago3
+abbrev pub ScatteredTimes : Window → Scattered → Type 0
+ScatteredTimes win s = (back : ℕ) (none : Times) → back < 4 → ScatteredAgo win back (get_or s.ago back none)
 
 pub record SentAgo (s : Scattered) (back : ℕ) (r : Times) : Type 0 where
   pub ago : (win : Window) → ScatteredTimes win s → ScatteredAgo win back r

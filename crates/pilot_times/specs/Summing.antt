@@ -1,20 +1,22 @@
--- What the loops keep that sum over the spectra of a `Sent`: the sum so far is that of the first i. Said once, for the numbers that are summed
--- here and the pairs of `pilot_line`. And what the sums of the offsets are in the end.
+-- What the loops of `pilot_line` keep that sum over the spectra of a `Sent`: the sum so far is that of the first i. And what the sums of the
+-- offsets are.
 -- Assumes nothing.
-use Rattle.std.specs.Prelude.{ℕ, ◌+◌, ◌≤◌, ◌<◌, List, [], ◌∷◌, ◌++◌, map, ◌≡◌, refl, pos, length, Float}
+use Rattle.std.specs.Prelude.{ℕ, zero, suc, ◌+◌, ◌≤◌, ◌<◌, List, [], ◌∷◌, ◌++◌, map, ◌≡◌, refl, pos, length, Float, from_bits}
+use Rattle.std.specs.List.{fold, range_with_len}
+use Rattle.std.proofs.lemmas.List.FromFn.{map-range_with_len_more}
 use Rattle.std.proofs.lemmas.Simd.{map-map}
 use Rattle.std.proofs.Common.{sym, ◌∙◌, add-one, arith}
 use Rattle.std.proofs.Math.Path.{ap}
 use Rattle.std.proofs.lemmas.List.{length-map}
-use Rattle.std.specs.Float.Ieee.{binary32, add, div, of_int}
+use Rattle.std.specs.Float.Ieee.{binary32, add, neg, div, of_bits, of_int}
 use Rattle.ieee.specs.Constants.{minus_zero}
-use Rattle.ieee.specs.Sums.{total, total_append}
+use Rattle.ieee.specs.Sums.{total}
 use Rattle.lists.specs.Lists.{up_to}
 use Rattle.lists.specs.Select.{length_up_to, map_up_to}
 use Rattle.pilot_times.specs.declared.Window.{Window}
 use Rattle.pilot_times.specs.declared.Sent.{Sent}
 use Rattle.pilot_times.specs.Window.{offset_of, mean, squared, spread}
-use Rattle.pilot_times.specs.Inner.{spectrum_of, spectra_of, Inside, offsets_of}
+use Rattle.pilot_times.specs.Inner.{spectrum_of, spectra_of, Inside, sum_at, offsets_of}
 
 -- ---- sums from the left: where they start, and how one value more is added
 pub record Adding (A : Type 0) : Type 0 where
@@ -23,18 +25,6 @@ pub record Adding (A : Type 0) : Type 0 where
   pub plus : A → A → A
   pub none : sum [] ≡ start
   pub more : (xs : List A) (x : A) → sum (xs ++ (x ∷ [])) ≡ plus (sum xs) x
-
--- numbers, from -0.0
-pub more_real : (xs : List Float) (x : Float) → total binary32 minus_zero (xs ++ (x ∷ [])) ≡ add binary32 (total binary32 minus_zero xs) x
-unfolding total
-more_real xs x = total_append binary32 minus_zero xs (x ∷ [])
-
-pub no_real : total binary32 minus_zero [] ≡ minus_zero
-unfolding total
-no_real = refl
-
-abbrev pub reals : Adding Float
-reals = record { sum = total binary32 minus_zero; start = minus_zero; plus = add binary32; none = no_real; more = more_real }
 
 -- ---- the sum of g over the first i spectra
 pub record Summed {A : Type 0} (S : Adding A) (g : ℕ → A) (sent : Sent) (i : ℕ) (sum : A) : Type 0 where
@@ -60,16 +50,38 @@ module _ {A : Type 0} (S : Adding A) (g : ℕ → A) (sent : Sent) where
 pub how_many : {A : Type 0} (g : ℕ → A) (sent : Sent) → length (map g (spectra_of sent)) ≡ sent.count
 how_many g sent = length-map (spectra_of sent) g ∙ length_up_to (spectrum_of sent) sent.count
 
+-- ---- the sum that std makes
+fold_total : (s : Float) (xs : List Float) → fold (λ a x. add binary32 a x) s xs ≡ total binary32 s xs
+unfolding total
+fold_total s [] = refl
+fold_total s (x ∷ xs) = fold_total (add binary32 s x) xs
+
+minus : neg (from_bits binary32 0) ≡ minus_zero
+unfolding neg of_bits
+minus = refl
+
+range_up_to : {A : Type 0} (h : ℕ → A) (n : ℕ) → map h (range_with_len 0 n) ≡ up_to h n
+range_up_to h zero = refl
+range_up_to {A} h (suc n) =
+    ap (λ (k : ℕ). map h (range_with_len 0 k)) (sym (add-one n))
+    ∙ map-range_with_len_more h 0 n n (omega arith)
+    ∙ ap (λ (l : List A). l ++ (h n ∷ [])) (range_up_to h n)
+
+pub sum_at_is : (g : ℕ → Float) (sent : Sent) → sum_at g sent ≡ total binary32 minus_zero (map g (spectra_of sent))
+sum_at_is g sent =
+    let h : ℕ → Float = λ i. g (spectrum_of sent i) in
+    fold_total (neg (from_bits binary32 0)) (map h (range_with_len 0 sent.count))
+    ∙ rw (minus, range_up_to h sent.count, map_up_to g (spectrum_of sent) sent.count)
+
 -- ---- the mean and the spread of the offsets
 module _ (win : Window) (sent : Sent) where
-  pub mean_is : {sum : Float} → sum ≡ total binary32 minus_zero (offsets_of win sent)
-      → div binary32 sum (of_int binary32 (pos sent.count)) ≡ mean (offsets_of win sent)
+  pub mean_is : {sum : Float} → sum ≡ sum_at (offset_of win) sent → div binary32 sum (of_int binary32 (pos sent.count)) ≡ mean (offsets_of win sent)
   unfolding mean
-  mean_is e = rw (how_many (offset_of win) sent, e)
+  mean_is e = rw (how_many (offset_of win) sent, e, sum_at_is (offset_of win) sent)
 
-  pub spread_is : (m : Float) → total binary32 minus_zero (map (λ s. squared m (offset_of win s)) (spectra_of sent)) ≡ spread m (offsets_of win sent)
+  pub spread_is : (m : Float) → sum_at (λ s. squared m (offset_of win s)) sent ≡ spread m (offsets_of win sent)
   unfolding spread
-  spread_is m = ap (total binary32 minus_zero) (sym (map-map (squared m) (offset_of win) (spectra_of sent)))
+  spread_is m = sum_at_is (λ s. squared m (offset_of win s)) sent ∙ ap (total binary32 minus_zero) (sym (map-map (squared m) (offset_of win) (spectra_of sent)))
 
 -- ---- spectra of a window lie within any larger one
 pub inside_larger : (m n : ℕ) (s : Sent) → m ≤ n → Inside m s → Inside n s

@@ -5,9 +5,9 @@
 // A scattered pilot comes back on its carrier every fourth symbol, a continual pilot every symbol.
 #![tactic(auto)]
 
-ghost use Rattle.std.specs.Prelude.{◌⊎◌, ◌≡◌, ◌≤◌, ◌<◌};
-ghost use Rattle.pilot_times.specs.Window.{at_least_one, scattered_offsets, continual_offsets, offset_of, mean, spread};
-ghost use Rattle.pilot_times.specs.Inner.{spectrum_of, Inside, Counted, Searchable, Skippable, Skipped, Reached, offsets_of, TimesOf};
+ghost use Rattle.std.specs.Prelude.{◌≡◌, ◌≤◌, ◌<◌};
+ghost use Rattle.pilot_times.specs.Window.{at_least_one, scattered_offsets, continual_offsets, offset_of, mean, squared};
+ghost use Rattle.pilot_times.specs.Inner.{spectrum_of, Inside, Counted, Searchable, Skippable, Skipped, Reached, offsets_of, sum_at, TimesOf};
 ghost use Rattle.pilot_times.specs.Inner.{Usable, ScatteredAgo, ScatteredTimes, SentAgo, ContinualTimes};
 
 // The symbol that a grid is asked for: the phase of its scattered pilots, its index among the spectra,
@@ -56,10 +56,7 @@ pub struct Times {
 // The times of the carriers whose scattered pilot was sent last now, or one, two or three symbols ago.
 #[derive(Clone, Copy)]
 pub struct Scattered {
-    pub ago0: Times,
-    pub ago1: Times,
-    pub ago2: Times,
-    pub ago3: Times,
+    pub ago: [Times; 4],
 }
 
 impl Current {
@@ -70,7 +67,7 @@ impl Current {
         Current {
             phase: self.phase,
             index: self.index,
-            w: if self.w == 0 { 1 } else { self.w },
+            w: self.w.max(1),
         }
     }
 
@@ -104,16 +101,7 @@ fn skipped(t: usize, offsets: Offsets) -> usize
     requires { Skippable offsets }
     ensures { Skipped t offsets result }
 {
-    if offsets.before <= t {
-        return 0;
-    }
-    (offsets.before - t + offsets.step - 1) / offsets.step
-}
-
-fn least(a: usize, b: usize) -> usize
-    ensures { (result ≤ a) × (result ≤ b) × ((a ≤ result) ⊎ (b ≤ result)) }
-{
-    if a < b { a } else { b }
+    offsets.before.saturating_sub(t).div_ceil(offsets.step)
 }
 
 // The spectra of a window at the offsets.
@@ -136,7 +124,7 @@ fn sent_in(win: Window, offsets: Offsets) -> Sent
     Sent {
         first: first,
         step: step,
-        count: least(offsets.count - before, room),
+        count: room.min(offsets.count - before),
     }
 }
 
@@ -159,35 +147,37 @@ pub fn offset(win: Window, s: usize) -> f32
 }
 
 // The mean of the offsets.
+#[tactic(auto, using(crate::specs::Summing::mean_is))]
 fn mean_offset(win: Window, sent: Sent) -> f32
     requires { Inside 1024 sent × (win.current.index ≤ 1024) }
     ensures { result ≡ mean (offsets_of win sent) }
 {
-    let mut sum = ieee::NEGATIVE_ZERO;
-    let mut i: usize = 0;
-    while i < sent.count {
-        sum = sum + offset(win, sent.spectrum(i));
-        i += 1;
-    }
-    sum / sent.count as f32
+    sum_of_offsets(win, sent) / sent.count as f32
+}
+
+// The sum of the offsets.
+fn sum_of_offsets(win: Window, sent: Sent) -> f32
+    requires { Inside 1024 sent × (win.current.index ≤ 1024) }
+    ensures { result ≡ sum_at (offset_of win) sent }
+{
+    (0..sent.count).map(|i| offset(win, sent.spectrum(i))).sum()
 }
 
 // How far the offsets are spread about their mean.
 fn spread_about(win: Window, sent: Sent, mean: f32) -> f32
     requires { Inside 1024 sent × (win.current.index ≤ 1024) }
-    ensures { result ≡ spread mean (offsets_of win sent) }
+    ensures { result ≡ sum_at (λ s. squared mean (offset_of win s)) sent }
 {
-    let mut sum = ieee::NEGATIVE_ZERO;
-    let mut i: usize = 0;
-    while i < sent.count {
-        let x = offset(win, sent.spectrum(i)) - mean;
-        sum = sum + x * x;
-        i += 1;
-    }
-    sum
+    (0..sent.count)
+        .map(|i| {
+            let x = offset(win, sent.spectrum(i)) - mean;
+            x * x
+        })
+        .sum()
 }
 
 // The times of a carrier whose pilot is sent at the offsets.
+#[tactic(auto, using(crate::specs::Summing::inside_larger))]
 fn times_at(win: Window, offsets: Offsets) -> Times
     requires { Searchable win offsets }
     ensures { TimesOf win offsets result }
@@ -213,10 +203,12 @@ pub fn scattered_times(win: Window) -> Scattered
     ensures { ScatteredTimes win result }
 {
     Scattered {
-        ago0: scattered_ago(win, 0),
-        ago1: scattered_ago(win, 1),
-        ago2: scattered_ago(win, 2),
-        ago3: scattered_ago(win, 3),
+        ago: [
+            scattered_ago(win, 0),
+            scattered_ago(win, 1),
+            scattered_ago(win, 2),
+            scattered_ago(win, 3),
+        ],
     }
 }
 
@@ -234,15 +226,6 @@ impl Scattered {
         requires { back < 4 }
         ensures { SentAgo self back result }
     {
-        if back == 0 {
-            return self.ago0;
-        }
-        if back == 1 {
-            return self.ago1;
-        }
-        if back == 2 {
-            return self.ago2;
-        }
-        self.ago3
+        self.ago[back]
     }
 }

@@ -7,7 +7,6 @@ ghost use Rattle.lists.specs.Lists.{up_to};
 ghost use Rattle.params.specs.Params.{mode_from, carriers_per_segment, total_carriers};
 ghost use Rattle.ofdm.specs.Band.{ZeroBand};
 ghost use Rattle.prbs.specs.Signs.{loaded, Step, sign_after, segment_signs, band_signs, edge_sign};
-ghost use Rattle.prbs.specs.Signs.{xor as Signs·xor};
 ghost use Rattle.prbs.specs.SignMap.{SignMap};
 
 use ofdm::{BandPlace, Segment};
@@ -17,19 +16,6 @@ use params::{Mode, ModeNumber};
 #[derive(Clone, Copy)]
 pub struct Prbs {
     pub bits: [u8; 11],
-}
-
-// What a step gives: the sign W, and the register handed on.
-#[derive(Clone, Copy)]
-pub struct PrbsStep {
-    pub w: u8,
-    pub next: Prbs,
-}
-
-fn xor(a: u8, b: u8) -> u8
-    ensures { result ≡ Signs·xor a b }
-{
-    if a == b { 0 } else { 1 }
 }
 
 impl Prbs {
@@ -55,18 +41,15 @@ impl Prbs {
     }
 
     // One step of x^11 + x^9 + 1: W is D11, and D9 xor D11 enters D1.
-    pub fn step(self) -> PrbsStep
-        ensures { Step self.bits result.w result.next.bits }
+    pub fn step(&mut self) -> u8
+        ensures { Step self.old.bits result self.new.bits }
     {
         let d = self.bits;
-        let feedback = xor(d[8], d[10]);
-        let next = [
+        let feedback = u8::from(d[8] != d[10]);
+        self.bits = [
             feedback, d[0], d[1], d[2], d[3], d[4], d[5], d[6], d[7], d[8], d[9],
         ];
-        PrbsStep {
-            w: d[10],
-            next: Prbs { bits: next },
-        }
+        d[10]
     }
 }
 
@@ -75,12 +58,8 @@ fn run_register(start: Prbs, out: &mut [u8])
     ensures { out.new ≡ up_to (sign_after start.bits) (length out.old) }
 {
     let mut register = start;
-    let mut i: usize = 0;
-    while i < out.len() {
-        let s = register.step();
-        out[i] = s.w;
-        register = s.next;
-        i += 1;
+    for sign in out.iter_mut() {
+        *sign = register.step();
     }
 }
 
@@ -117,13 +96,11 @@ pub fn band_w(mode: Mode, out: &mut [u8])
     ensures { out.new ≡ band_signs mode }
 {
     let c = mode.carriers_per_segment();
-    let mut place: usize = 0;
-    while place < 13 {
+    for place in 0..13 {
         let seg = ofdm::segment_at_position(BandPlace(place));
         let from = ofdm::first_carrier(mode, BandPlace(place)).0;
         let to = from + c;
         segment_w(mode, seg, &mut out[from..to]);
-        place += 1;
     }
     let edge = ofdm::first_carrier(mode, BandPlace(13)).0;
     out[edge] = edge_w(mode);

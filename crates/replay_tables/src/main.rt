@@ -9,7 +9,6 @@ use params::{Mode, SegmentKind};
 use replay::{Answers, Cut};
 use std::io;
 use std::io::Stdin;
-use tables::Positions;
 use tally::Tally;
 
 const MODES: [Mode; 3] = [Mode::M1, Mode::M2, Mode::M3];
@@ -29,17 +28,21 @@ fn compare<F: Fn(usize) -> u16>(answers: &mut Answers, n: usize, number: F) -> R
     Ok(())
 }
 
-// The count of a row is stored in front of its places.
-fn check_row(answers: &mut Answers, row: Positions) -> Result<(), Cut> {
+// The count of a row is stored in front of its places. A place that the row lacks is compared as 0.
+fn check_row(answers: &mut Answers, row: &[u16]) -> Result<(), Cut> {
     let n = usize::from(answers.read_byte()?);
     if 20 < n {
         return Err(Cut);
     }
-    answers.tally.expect(n == row.count);
-    compare(answers, n, |i| row.places[i])
+    compare(answers, n, |i| row.get(i).copied().unwrap_or(0))?;
+    answers.tally.expect(n == row.len());
+    Ok(())
 }
 
-fn check_table<F: Fn(Mode, usize) -> Positions>(answers: &mut Answers, row: F) -> Result<(), Cut>
+fn check_table<'a, F: Fn(Mode, usize) -> &'a [u16]>(
+    answers: &mut Answers,
+    row: F,
+) -> Result<(), Cut>
     requires { (mode : _) (seg : ℕ) → seg < 13 → F.pre row mode seg }
 {
     for mode in MODES {

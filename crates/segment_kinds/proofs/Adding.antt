@@ -17,35 +17,24 @@ module _ (keep : ℕ → Bool) (places : List ℕ) (f : ℕ → Float) (s₀ : F
   ahead i = select keep (drop i places)
 
   pub record Ahead (sum : Float) (count i : ℕ) : Type 0 where
-    pub passed : i ≤ length places
     pub few : count ≤ n₀ + i
     pub summed : total binary32 sum (map f (ahead i)) ≡ total binary32 s₀ (map f (select keep places))
     pub counted : count + length (ahead i) ≡ n₀ + length (select keep places)
 
   pub begin : Ahead s₀ n₀ 0
-  begin = record { passed = omega arith; few = omega arith; summed = refl; counted = refl }
+  begin = record { few = omega arith; summed = refl; counted = refl }
 
   module _ (sum : Float) (count i : ℕ) (a : Ahead sum count i) where
     pub skip : i < length places → keep (get_or places i 0) ≡ false → Ahead sum count (i + 1)
     skip h e =
         let same : ahead (i + 1) ≡ ahead i = rw (drop-cons places i 0 h, e, add-one) in
-        record {
-          passed = omega arith;
-          few = omega (arith, a.few);
-          summed = rw same a.summed;
-          counted = rw same a.counted;
-        }
+        record { few = omega (arith, a.few); summed = rw same a.summed; counted = rw same a.counted }
 
     pub further : i < length places → keep (get_or places i 0) ≡ true → Ahead (add binary32 sum (f (get_or places i 0))) (count + 1) (i + 1)
     unfolding total
     further h e =
         let one : ahead i ≡ get_or places i 0 ∷ ahead (i + 1) = rw (drop-cons places i 0 h, e, add-one) in
-        record {
-          passed = omega arith;
-          few = omega (arith, a.few);
-          summed = rw one at a.summed;
-          counted = omega (arith, a.counted, ap length one);
-        }
+        record { few = omega (arith, a.few); summed = rw one at a.summed; counted = omega (arith, a.counted, ap length one) }
 
     none : length places ≤ i → ahead i ≡ []
     none h = ap (select keep) (drop_of_length-le places h)

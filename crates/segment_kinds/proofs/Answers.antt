@@ -13,7 +13,7 @@ use Rattle.params.specs.declared.ModeNumber.{ModeNumber}
 use Rattle.params.specs.declared.ModeNumber.TheVariants.{Known, Unknown}
 use Rattle.params.specs.Params.{total_carriers}
 use Rattle.ratio.specs.Ratio.{bin_ratios, metric_code, metric_leaves, MetricTaken}
-use Rattle.ratio.specs.Codes.{ratios_length, left_written}
+use Rattle.ratio.specs.Codes.{left_written}
 use Rattle.segment_kinds.specs.declared.DetectedKinds.{DetectedKinds}
 use Rattle.segment_kinds.specs.SegmentKinds.{kinds_code, kinds_leaves, kinds_answer, scores_answer, KindsDetected}
 use Rattle.segment_kinds.specs.Inner.{AllDetected, NoKinds}
@@ -45,9 +45,6 @@ module _ (number : ModeNumber) (m : Mode) (known : number ≡ Known m) (xs old n
 
   written : n ≡ 0 → now ≡ bin_ratios (total_carriers m) xs
   written z = left_written k xs old now n taken z ∙ ap (λ (c : ℕ). bin_ratios c xs) sizes
-
-  pub banded : n ≡ 0 → length now ≡ total_carriers m
-  banded z = ap length (written z) ∙ ratios_length (total_carriers m) xs
 
   pub answered : (r : DetectedKinds) → n ≡ 0 → AllDetected m now r → KindsDetected number xs old r now
   unfolding kinds_answer scores_answer

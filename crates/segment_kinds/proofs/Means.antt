@@ -1,6 +1,6 @@
 -- Places that are added one list after another: they are few, and their mean is that of the lists joined.
 -- Assumes nothing.
-use Prim.Native.Nat.{ℕ, zero, suc, ◌+◌, ◌≤◌}
+use Prim.Native.Nat.{ℕ, suc, ◌+◌, ◌≤◌}
 use mathlib.Core.Bool.{Bool, true, false, cond}
 use mathlib.Core.List.{List, [], ◌∷◌, ◌++◌, map, map-append}
 use mathlib.Core.Path.{◌≡◌, ◌∙◌}
@@ -12,13 +12,11 @@ use lib.Ieee.{Float, binary32, div, of_int, in_float}
 use Rattle.ieee.specs.Differences.{held_exactly}
 use Rattle.ieee.specs.Constants.{minus_zero}
 use Rattle.ieee.specs.Sums.{total_append}
-use Rattle.lists.specs.Lists.{select, Inside}
+use Rattle.lists.specs.Lists.{select}
 use Rattle.lists.specs.Select.{select_append}
 use Rattle.params.specs.declared.Mode.{Mode}
-use Rattle.params.specs.Params.{carriers_per_segment}
-use Rattle.params.specs.Laws.{sized}
 use Rattle.segment_kinds.specs.declared.Mean.{Mean}
-use Rattle.segment_kinds.specs.Inner.{is_telling, kept, ratio_at, Banded, Addable, Added, mean_of, Scorable}
+use Rattle.segment_kinds.specs.Inner.{is_telling, kept, ratio_at, Addable, Added, mean_of, Scorable}
 
 added_both : (f : ℕ → Float) (xs ys : List ℕ) (s r t : Mean) → Added s f xs r → Added r f ys t → Added s f (xs ++ ys) t
 added_both f xs ys s r t g h =
@@ -38,16 +36,9 @@ select_fewer keep (x ∷ xs) = by (keep x) (select_fewer keep xs)
 added_few : (tmcc ac1 places : List ℕ) (f : ℕ → Float) (s r : Mean) → Added s f (kept tmcc ac1 places) r → r.count ≤ s.count + length places
 added_few tmcc ac1 places f s r h = omega (arith, h.count, select_fewer (is_telling tmcc ac1) places)
 
-first_inside : (mode : Mode) → Inside (0 ∷ []) (carriers_per_segment mode)
-first_inside mode zero l = omega (arith, (sized mode).carriers_low)
-first_inside mode (suc i) l = absurd (omega arith)
-
-pub first_addable : (mode : Mode) (place n : ℕ) → Banded mode place n → Addable 0 mode place (0 ∷ []) n
-first_addable mode place n b = record { here = b; few = omega arith; inside = first_inside mode }
-
 -- place 0, AC2 and differential TMCC, added one after another
 module _ (mode : Mode) (place : ℕ) (tmcc ac1 ac2 differential : List ℕ) (ratios : List Float)
-    (p : Scorable mode place ac2 differential (length ratios)) (s : Mean) (none : s.count ≡ 0) where
+    (p : Scorable mode ac2 differential) (s : Mean) (none : s.count ≡ 0) where
   abbrev f : ℕ → Float
   f = ratio_at mode place ratios
 
@@ -55,15 +46,12 @@ module _ (mode : Mode) (place : ℕ) (tmcc ac1 ac2 differential : List ℕ) (rat
     one : a.count ≤ 1
     one = omega (arith, added_few tmcc ac1 (0 ∷ []) f s a first)
 
-    pub ac2_addable : Addable a.count mode place ac2 (length ratios)
-    ac2_addable = record { here = p.here; few = omega (arith, one, p.ac2_short); inside = p.ac2_inside }
-
     module _ (b : Mean) (g : Added a f (kept tmcc ac1 ac2) b) where
       few_more : b.count ≤ 21
       few_more = omega (arith, one, added_few tmcc ac1 ac2 f a b g, p.ac2_short)
 
-      pub tmcc_addable : Addable b.count mode place differential (length ratios)
-      tmcc_addable = record { here = p.here; few = omega (arith, few_more, p.tmcc_short); inside = p.tmcc_inside }
+      pub tmcc_addable : Addable b.count mode differential
+      tmcc_addable = record { few = omega (arith, few_more, p.tmcc_short); inside = p.tmcc_inside }
 
       module _ (m : Mean) (h : Added b f (kept tmcc ac1 differential) m) where
         -- so few are a whole f32

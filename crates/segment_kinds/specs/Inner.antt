@@ -25,14 +25,13 @@ kept tmcc ac1 places = select (is_telling tmcc ac1) places
 abbrev pub ratio_at : Mode → ℕ → List Float → ℕ → Float
 ratio_at mode place ratios p = get_or ratios (place * carriers_per_segment mode + p) nan
 
--- a segment, by its number or by its place, of a band with n ratios
+-- a segment, by its number, of a band with n ratios
 pub record Banded (mode : Mode) (seg n : ℕ) : Type 0 where
   pub segment : seg < 13
   pub band : n ≡ total_carriers mode
 
 -- places of a segment, after `count` others: place 0 and two rows of at most 20 at the most
-pub record Addable (count : ℕ) (mode : Mode) (place : ℕ) (places : List ℕ) (n : ℕ) : Type 0 where
-  pub here : Banded mode place n
+pub record Addable (count : ℕ) (mode : Mode) (places : List ℕ) : Type 0 where
   pub few : count + length places ≤ 41
   pub inside : Inside places (carriers_per_segment mode)
 
@@ -46,8 +45,7 @@ unfoldable pub mean_of : (ℕ → Float) → List ℕ → Float
 mean_of f places = div binary32 (total binary32 minus_zero (map f places)) (of_int binary32 (pos (length places)))
 
 -- rows of a segment
-pub record Scorable (mode : Mode) (place : ℕ) (ac2 differential : List ℕ) (n : ℕ) : Type 0 where
-  pub here : Banded mode place n
+pub record Scorable (mode : Mode) (ac2 differential : List ℕ) : Type 0 where
   pub ac2_short : length ac2 ≤ 20
   pub ac2_inside : Inside ac2 (carriers_per_segment mode)
   pub tmcc_short : length differential ≤ 20

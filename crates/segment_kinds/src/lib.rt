@@ -3,9 +3,8 @@
 // coherent over time.
 #![tactic(auto)]
 
-ghost use Rattle.std.specs.Prelude.{◌≡◌, ◌∷◌, ◌++◌, length};
+ghost use Rattle.std.specs.Prelude.{◌≡◌, ◌<◌, ◌∷◌, ◌++◌, length};
 ghost use Rattle.params.specs.Params.{mode_from, total_carriers};
-ghost use Rattle.lists.specs.Tests.{memb};
 ghost use Rattle.segment_kinds.specs.SegmentKinds.{kind_score, kind_of_score, KindsDetected};
 ghost use Rattle.segment_kinds.specs.Inner.{is_telling, ratio_at, Addable, Added, kept, mean_of, Scorable, Banded, AllDetected, NoKinds};
 
@@ -29,86 +28,60 @@ pub struct Mean {
     pub count: usize,
 }
 
-// Whether p is in the list.
-fn is_listed(places: &[u16], p: u16) -> bool
-    ensures { result ≡ memb p places.now }
-{
-    let mut i: usize = 0;
-    while i < places.len() {
-        if places[i] == p {
-            return true;
-        }
-        i += 1;
-    }
-    false
-}
-
-// Whether p is in neither list.
-fn is_telling(tmcc: &[u16], ac1: &[u16], p: u16) -> bool
-    ensures { result ≡ is_telling tmcc.now ac1.now p }
-{
-    if is_listed(tmcc, p) {
-        return false;
-    }
-    !is_listed(ac1, p)
-}
-
-// Adds the ratios at those of `places`, of the segment at place `at` of the band, that are in neither
-// list of coherent places. `ratios` are those of the band.
-fn add_places(
-    start: Mean,
+// A segment as its score sees it: the ratios of the band, the segment's place there, and the places that
+// are continual in a coherent segment too.
+#[derive(Clone, Copy)]
+struct SegmentRatios<'a> {
     mode: Mode,
     at: BandPlace,
-    places: &[u16],
-    tmcc: &[u16],
-    ac1: &[u16],
-    ratios: &[f32],
-) -> Mean
-    requires { Addable start.count mode at.0 places.now (length ratios.now) }
-    ensures { Added start (ratio_at mode at.0 ratios.now)
-        (kept tmcc.now ac1.now places.now) result }
-{
-    let mut sum = start.sum;
-    let mut count = start.count;
-    let mut i: usize = 0;
-    while i < places.len() {
-        let p = places[i];
-        i += 1;
-        if !is_telling(tmcc, ac1, p) {
-            continue;
-        }
-        let carrier = ofdm::band_carrier(mode, at, SegmentPlace(p as usize));
-        let k = carrier.0;
-        sum = sum + ratios[k];
-        count += 1;
-    }
-    Mean { sum, count }
+    tmcc: &'a [u16],
+    ac1: &'a [u16],
+    ratios: &'a [f32],
+    ghost inside: { at.0 < 13 },
+    ghost band: { length ratios.now ≡ total_carriers mode },
 }
 
-// The mean ratio of the telling ones among place 0, AC2 and differential TMCC of the segment at place
-// `at` of the band. `ratios` are those of the band.
-fn mean_ratio(
-    mode: Mode,
-    at: BandPlace,
-    tmcc: &[u16],
-    ac1: &[u16],
-    ac2: &[u16],
-    differential: &[u16],
-    ratios: &[f32],
-) -> f32
-    requires { Scorable mode at.0 ac2.now differential.now (length ratios.now) }
-    ensures { result ≡ mean_of (ratio_at mode at.0 ratios.now)
-        (kept tmcc.now ac1.now (0 ∷ (ac2.now ++ differential.now))) }
-{
-    let first = [0u16; 1];
-    let start = Mean {
-        sum: ieee::NEGATIVE_ZERO,
-        count: 0,
-    };
-    let a = add_places(start, mode, at, &first, tmcc, ac1, ratios);
-    let b = add_places(a, mode, at, ac2, tmcc, ac1, ratios);
-    let m = add_places(b, mode, at, differential, tmcc, ac1, ratios);
-    m.sum / m.count as f32
+impl SegmentRatios<'_> {
+    // Whether p is in neither list of coherent places.
+    fn is_telling(&self, p: u16) -> bool
+        ensures { result ≡ is_telling self.now.tmcc.now self.now.ac1.now p }
+    {
+        !self.tmcc.contains(&p) && !self.ac1.contains(&p)
+    }
+
+    // Adds the ratios at those of `places` that tell.
+    fn add_places(&self, start: Mean, places: &[u16]) -> Mean
+        requires { Addable start.count self.now.mode places.now }
+        ensures { Added start (ratio_at self.now.mode self.now.at.0 self.now.ratios.now)
+            (kept self.now.tmcc.now self.now.ac1.now places.now) result }
+    {
+        let mut sum = start.sum;
+        let mut count = start.count;
+        for p in places {
+            if self.is_telling(*p) {
+                let carrier = ofdm::band_carrier(self.mode, self.at, SegmentPlace(*p as usize));
+                sum = sum + self.ratios[carrier.0];
+                count += 1;
+            }
+        }
+        Mean { sum, count }
+    }
+
+    // The mean ratio of the telling ones among place 0, AC2 and differential TMCC.
+    fn mean_ratio(&self, ac2: &[u16], differential: &[u16]) -> f32
+        requires { Scorable self.now.mode ac2.now differential.now }
+        ensures { result ≡ mean_of (ratio_at self.now.mode self.now.at.0 self.now.ratios.now)
+            (kept self.now.tmcc.now self.now.ac1.now (0 ∷ (ac2.now ++ differential.now))) }
+    {
+        let start = Mean {
+            sum: ieee::NEGATIVE_ZERO,
+            count: 0,
+        };
+        let a = self.add_places(start, &[0]);
+        let b = self.add_places(a, ac2);
+        let m = self.add_places(b, differential);
+        m.sum / m.count as f32
+    }
 }
 
 // The mean ratio of a segment's telling places. `ratios` are those of the band.
@@ -116,28 +89,16 @@ fn segment_score(mode: Mode, seg: Segment, ratios: &[f32]) -> f32
     requires { Banded mode seg.0 (length ratios.now) }
     ensures { result ≡ kind_score mode ratios.now seg.0 }
 {
-    let at = ofdm::segment_position(seg);
-    let tmcc = tables::tmcc_positions(mode, SegmentKind::Coherent, seg.0);
-    let ac1 = tables::ac1_positions(mode, SegmentKind::Coherent, seg.0);
+    let segment = SegmentRatios {
+        mode,
+        at: ofdm::segment_position(seg),
+        tmcc: tables::tmcc_positions(mode, SegmentKind::Coherent, seg.0),
+        ac1: tables::ac1_positions(mode, SegmentKind::Coherent, seg.0),
+        ratios,
+    };
     let ac2 = tables::ac2_positions(mode, SegmentKind::Differential, seg.0);
     let differential = tables::tmcc_positions(mode, SegmentKind::Differential, seg.0);
-    let tmcc_places = tmcc.places;
-    let tmcc_count = tmcc.count;
-    let ac1_places = ac1.places;
-    let ac1_count = ac1.count;
-    let ac2_places = ac2.places;
-    let ac2_count = ac2.count;
-    let differential_places = differential.places;
-    let differential_count = differential.count;
-    mean_ratio(
-        mode,
-        at,
-        &tmcc_places[..tmcc_count],
-        &ac1_places[..ac1_count],
-        &ac2_places[..ac2_count],
-        &differential_places[..differential_count],
-        ratios,
-    )
+    segment.mean_ratio(ac2, differential)
 }
 
 // 1, differential, above 0.5; else 0, coherent.
@@ -154,12 +115,10 @@ fn detected(mode: Mode, ratios: &[f32]) -> DetectedKinds
 {
     let mut kinds = [0u8; 13];
     let mut scores = [0.0f32; 13];
-    let mut seg: usize = 0;
-    while seg < 13 {
+    for seg in 0..13 {
         let score = segment_score(mode, Segment(seg), ratios);
         scores[seg] = score;
         kinds[seg] = kind_of(score);
-        seg += 1;
     }
     DetectedKinds {
         code: 0,

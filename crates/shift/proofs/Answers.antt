@@ -6,9 +6,8 @@ use mathlib.Core.Path.{◌≡◌, sym, ap, ◌∙◌}
 use native.Mathlib.Omega.{arith}
 use borrow.Author.Tests.{ne_eqb}
 use lib.IntN.{ℤ, pos}
-use lib.ListN.{length, take}
+use lib.ListN.{length}
 use lib.Ieee.{Float, binary32, minus, div, of_int}
-use lib.Seq.{sets-eq, length-sets, take_at}
 use Rattle.params.specs.declared.Mode.{Mode}
 use Rattle.params.specs.declared.ModeNumber.{ModeNumber}
 use Rattle.params.specs.declared.ModeNumber.TheVariants.{Known, Unknown}
@@ -21,28 +20,8 @@ use Rattle.shift.specs.declared.ShiftAnswer.{ShiftAnswer}
 use Rattle.shift.specs.declared.ShiftAnswer.TheVariants.{Found, Refused}
 use Rattle.shift.specs.Shift.{pattern, score_of, winner, best_shift, shift_code, shift_leaves, shift_answer, shift_number, Shifted}
 use Rattle.shift.specs.Facts.{shift_number_lem}
-use Rattle.shift.specs.Inner.{Put, Bounded, BestFound}
-use Rattle.shift.proofs.Segments.{pattern_few, pattern_inside}
-
--- ---- the pattern in front of the buffer
-module _ (m : Mode) (old out : List ℕ) (r : ℕ) (p : Put (pattern m) old 0 r out) (size : 105 ≡ length old) where
-  room : 0 + length (pattern m) ≤ length old
-  room = omega (arith, pattern_few m)
-
-  pub front_few : r ≤ 105
-  front_few = omega (arith, room, p.next)
-
-  pub front_fits : r ≤ length out
-  front_fits = rw (p.stored, length-sets old 0 (pattern m)) (omega (arith, front_few))
-
-  counts : r ≡ length (pattern m)
-  counts = omega (arith, p.next)
-
-  pub front_is : take r out ≡ pattern m
-  front_is = rw (p.stored, sets-eq (pattern m) old 0 room) (take_at (pattern m) _ r (sym counts))
-
-  pub front_length : r ≡ length (take r out)
-  front_length = counts ∙ sym (ap length front_is)
+use Rattle.shift.specs.Inner.{Bounded, BestFound}
+use Rattle.shift.proofs.Segments.{pattern_inside}
 
 -- ---- the sizes
 pub mode_bins : (m : Mode) (n : ℕ) → n ≡ fft_size m → (0 < n) × (n ≤ 8192)

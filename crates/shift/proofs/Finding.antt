@@ -1,6 +1,6 @@
 -- What `search` keeps: the best so far is the winner among the shifts passed.
 -- Assumes nothing.
-use Prim.Native.Nat.{ℕ, ◌+◌, ◌*◌, ◌-◌, ◌%◌, ◌≤◌, ◌<◌}
+use Prim.Native.Nat.{ℕ, ◌+◌, ◌*◌, ◌-◌, ◌%◌, ◌≤◌}
 use mathlib.Core.Bool.{Bool, true, false, cond}
 use mathlib.Core.List.{List, map, map-append}
 use mathlib.Core.Path.{◌≡◌, sym, ap, ◌∙◌}
@@ -24,13 +24,12 @@ module _ (bins : List ℕ) (ratios : List Float) (bound : ℕ) where
   won j = searched (sum_at (length ratios) bins ratios) (winner (pos 0) lowest) (map (λ k. minus k bound) (range j))
 
   pub record Passed (j : ℕ) (best : Best) : Type 0 where
-    pub count : j ≤ 2 * bound + 1
     pub inside : best.at ≤ 2 * bound
     pub wins : winner (minus best.at bound) best.sum ≡ won j
 
   pub search_begin : Passed 0 (record { at = bound; sum = lowest })
   unfolding searched
-  search_begin = record { count = omega arith; inside = omega arith; wins = ap (λ (z : ℤ). winner z lowest) (minus_self bound) }
+  search_begin = record { inside = omega arith; wins = ap (λ (z : ℤ). winner z lowest) (minus_self bound) }
 
   -- s is the sum of shift number j
   module _ (j : ℕ) (best : Best) (w : Passed j best) (b : Bounded bins (length ratios) bound) (h : j ≤ 2 * bound) (s : Float)
@@ -42,13 +41,11 @@ module _ (bins : List ℕ) (ratios : List Float) (bound : ℕ) where
         rw (add-one, map-append, searched_more, ← w.wins, here, g)
 
     pub search_take : lt best.sum s ≡ true → Passed (j + 1) (record { at = j; sum = s })
-    search_take g = record { count = omega arith; inside = h; wins = sym (next true g) }
+    search_take g = record { inside = h; wins = sym (next true g) }
 
     pub search_keep : lt best.sum s ≡ false → Passed (j + 1) best
-    search_keep g = record { count = omega arith; inside = w.inside; wins = sym (next false g) }
+    search_keep g = record { inside = w.inside; wins = sym (next false g) }
 
-  pub search_done : (j : ℕ) (best : Best) → 2 * bound < j → Passed j best → BestFound bins ratios bound best
+  pub search_done : (best : Best) → Passed (2 * bound + 1) best → BestFound bins ratios bound best
   unfolding shifts best_shift
-  search_done j best h w =
-      let all : j ≡ 2 * bound + 1 = omega (arith, w.count) in
-      record { inside = w.inside; wins = w.wins ∙ ap won all }
+  search_done best w = record { inside = w.inside; wins = w.wins }

@@ -6,8 +6,8 @@ use mathlib.Core.Path.{◌≡◌, refl, ap, ◌∙◌}
 use native.Mathlib.Numerals.{add-one}
 use native.Mathlib.Omega.{arith}
 use lib.Dec.{lit≤}
-use lib.ListN.{length, set, length-append, length-map}
-use lib.Seq.{length-sets}
+use lib.ListN.{length, set, take, length-append, length-map}
+use lib.Seq.{sets-eq, take_at}
 use Rattle.lists.specs.Lists.{range, joined, Inside}
 use Rattle.lists.specs.Fill.{joined_range, sets_append}
 use Rattle.params.specs.declared.Mode.{Mode}
@@ -62,29 +62,35 @@ pub pattern_inside : (mode : Mode) → Inside (pattern mode) (fft_size mode)
 unfolding pattern
 pattern_inside mode = map_inside (bin_of mode) (fft_size mode) (bin_below mode) (pattern_carriers mode)
 
+-- a pattern stored from the front is the front
+front_is : (mode : Mode) (old out : List ℕ) (r : ℕ) → 105 ≤ length old → Put (pattern mode) old 0 r out → take r out ≡ pattern mode
+front_is mode old out r room p =
+    let fits : 0 + length (pattern mode) ≤ length old = omega (arith, pattern_few mode) in
+    rw (p.stored, sets-eq (pattern mode) old 0 fits) (take_at (pattern mode) _ r (omega (arith, p.next)))
+
 module _ (mode : Mode) (old : List ℕ) where
   -- the segments below seg are stored
   pub record Filled (seg at : ℕ) (out : List ℕ) : Type 0 where
-    pub passed : seg ≤ 13
     pub low : at ≤ 8 * seg
-    pub size : length out ≡ length old
     pub front : Put (joined (segment_bins mode) (range seg)) old 0 at out
 
   pub fill_begin : Filled 0 0 old
-  fill_begin = record { passed = omega arith; low = omega arith; size = refl; front = record { next = refl; stored = refl } }
+  fill_begin = record { low = omega arith; front = record { next = refl; stored = refl } }
 
   module _ (seg at : ℕ) (out : List ℕ) (w : Filled seg at out) where
     pub fill_again : (at' : ℕ) (out' : List ℕ) → seg < 13 → Put (segment_bins mode seg) out at at' out' → Filled (seg + 1) at' out'
     unfolding segment_bins
     fill_again at' out' h p =
         record {
-          passed = omega arith;
           low = omega (arith, w.low, p.next, row_few mode seg h, simp length-map at p.next);
-          size = ap length p.stored ∙ (length-sets out at (segment_bins mode seg) ∙ w.size);
           front = rw (add-one seg, joined_range (segment_bins mode) seg) (put_more _ _ _ _ _ _ _ _ w.front p);
         }
 
-    pub fill_done : (k edge : ℕ) → 13 ≤ seg → k ≡ total_carriers mode → edge ≡ bin_of mode (k - 1) → Put (pattern mode) old 0 (at + 1) (set out at edge)
-    fill_done k edge h e b =
+    -- with the edge behind them, the front is the pattern
+    pub fill_done : (k edge : ℕ) → 105 ≤ length old → 13 ≤ seg → seg ≤ 13 → k ≡ total_carriers mode → edge ≡ bin_of mode (k - 1)
+        → take (at + 1) (set out at edge) ≡ pattern mode
+    fill_done k edge room h h' e b =
         let last : edge ≡ bin_of mode (total_carriers mode - 1) = b ∙ ap (λ (n : ℕ). bin_of mode (n - 1)) e in
-        rw (last, pattern_is mode seg (omega (arith, w.passed))) (put_more _ _ _ _ _ _ _ _ w.front (record { next = refl; stored = refl }))
+        let p : Put (pattern mode) old 0 (at + 1) (set out at edge) =
+        rw (last, pattern_is mode seg (omega arith)) (put_more _ _ _ _ _ _ _ _ w.front (record { next = refl; stored = refl })) in
+        front_is mode old _ _ room p

@@ -31,47 +31,34 @@ pub struct Best {
     pub sum: f32,
 }
 
-// Room for the longest pattern, that of mode 3. The `ensures` gives the length alone.
-fn pattern_buffer() -> [u32; 105]
-    ensures { 105 ≡ length result }
-{
-    [0; 105]
-}
-
 // Stores the bins of a segment's AC1 carriers from index `at` on, and gives the index behind.
 fn put_segment(mode: Mode, seg: Segment, out: &mut [u32], at: usize) -> usize
     requires { Room seg.0 out.old at }
     ensures { Put (segment_bins mode seg.0) out.old at result out.new }
 {
     let row = tables::ac1_positions(mode, SegmentKind::Coherent, seg.0);
-    let places = row.places;
-    let count = row.count;
     let place = ofdm::segment_position(seg);
-    let mut i: usize = 0;
-    while i < count {
-        let k = ofdm::band_carrier(mode, place, SegmentPlace(places[i] as usize));
+    for (i, p) in row.iter().enumerate() {
+        let k = ofdm::band_carrier(mode, place, SegmentPlace(*p as usize));
         let bin = ofdm::carrier_bin(mode, k);
         out[at + i] = bin.0 as u32;
-        i += 1;
     }
-    at + count
+    at + row.len()
 }
 
-// Stores the pattern's bins from the front, and gives how many there are: AC1 carriers by segment
-// number, then the edge.
-fn put_pattern(mode: Mode, out: &mut [u32]) -> usize
+// Stores the pattern's bins from the front, AC1 carriers by segment number, then the edge, and lends
+// them.
+fn put_pattern(mode: Mode, out: &mut [u32]) -> &[u32]
     requires { 105 ≤ length out.old }
-    ensures { Put (pattern mode) out.old 0 result out.new }
+    ensures { result.now ≡ pattern mode }
 {
     let mut at: usize = 0;
-    let mut seg: usize = 0;
-    while seg < 13 {
+    for seg in 0..13 {
         at = put_segment(mode, Segment(seg), out, at);
-        seg += 1;
     }
     let edge = ofdm::carrier_bin(mode, BandCarrier(mode.total_carriers() - 1));
     out[at] = edge.0 as u32;
-    at + 1
+    &out[..at + 1]
 }
 
 // The sum of the ratios at the pattern's bins, each moved up by `up` modulo the ratios' length.
@@ -81,13 +68,10 @@ fn pattern_sum(bins: &[u32], ratios: &[f32], up: usize) -> f32
 {
     let n = ratios.len();
     let mut sum = ieee::NEGATIVE_ZERO;
-    let mut i: usize = 0;
-    while i < bins.len() {
-        let bin = bins[i] as usize;
-        let moved = ofdm::moved_up(FftBin(bin), up, n);
+    for bin in bins {
+        let moved = ofdm::moved_up(FftBin(*bin as usize), up, n);
         let at = moved.0;
         sum = sum + ratios[at];
-        i += 1;
     }
     sum
 }
@@ -103,13 +87,11 @@ fn search(bins: &[u32], ratios: &[f32], bound: usize) -> Best
         at: bound,
         sum: ieee::F32_MIN,
     };
-    let mut j: usize = 0;
-    while j <= 2 * bound {
+    for j in 0..2 * bound + 1 {
         let sum = pattern_sum(bins, ratios, (j + (n - bound)) % n);
         if sum > best.sum {
             best = Best { at: j, sum: sum };
         }
-        j += 1;
     }
     best
 }
@@ -133,10 +115,10 @@ pub fn integer_cfo(mode: u8, spectra: &[f32], bound: usize, ratios: &mut [f32]) 
         return ShiftAnswer::Refused(8);
     }
     ratio::continual_metric(spectra, n, ratios);
-    let mut buffer = pattern_buffer();
-    let count = put_pattern(m, &mut buffer);
-    let best = search(&buffer[..count], ratios, bound);
+    let mut buffer = [0u32; 105];
+    let bins = put_pattern(m, &mut buffer);
+    let best = search(bins, ratios, bound);
     let shift = best.at as i64 - bound as i64;
-    let score = best.sum / count as f32;
+    let score = best.sum / bins.len() as f32;
     ShiftAnswer::Found(FoundShift { shift, score })
 }

@@ -1,19 +1,12 @@
 -- The places of a segment that carry pilots, TMCC, AC1 and AC2, by mode, kind, row and phase (ARIB STD-B31, Figures 3-29 and 3-30,
 -- Tables 3-14 and 3-15).
 -- Definitions only.
-use Rattle.std.specs.Prelude.{ℕ, ◌+◌, ◌-◌, ◌*◌, ◌%◌, Bool, false, cond, List, [], ◌≡◌, eqb, length, get_or, take, drop, replicate}
+use Rattle.std.specs.Prelude.{ℕ, ◌+◌, ◌*◌, ◌%◌, Bool, false, cond, List, [], eqb, get_or}
 use Rattle.lists.specs.Tests.{memb}
 use Rattle.params.specs.declared.Mode.{Mode}
 use Rattle.params.specs.declared.SegmentKind.{SegmentKind}
 use Rattle.params.specs.declared.SegmentKind.TheVariants.{Coherent, Differential}
-use Rattle.tables.specs.declared.Positions.{Positions}
 use Rattle.tables.specs.Rows.{diff_ac1, diff_ac2, diff_tmcc, coh_ac1, coh_tmcc, prbs_init}
-
--- the code's row r holds the places xs, and zeros behind them
-pub record Listed (r : Positions) (xs : List ℕ) : Type 0 where
-  pub places : take r.count r.places ≡ xs
-  pub count : r.count ≡ length xs
-  pub beyond : drop r.count r.places ≡ replicate (20 - r.count) 0
 
 abbrev pub tmcc_of : Mode → SegmentKind → ℕ → List ℕ
 tmcc_of mode Coherent row = get_or (coh_tmcc mode) row []

@@ -1,11 +1,10 @@
 -- What `soft_value` keeps: the terms of the segments so far are added up.
 -- Assumes nothing.
-use Prim.Native.Nat.{ℕ, ◌+◌, ◌*◌, ◌≤◌, ◌<◌}
+use Prim.Native.Nat.{ℕ, ◌+◌, ◌*◌, ◌<◌}
 use mathlib.Core.Bool.{Bool, true, false, cond}
 use mathlib.Core.List.{List, [], map, map-append, map-map}
 use mathlib.Core.Path.{◌≡◌, refl, ◌∙◌}
 use native.Mathlib.Numerals.{add-one}
-use native.Mathlib.Omega.{arith}
 use lib.Ieee.{Float, binary32}
 use lib.ListN.{get_or}
 use Rattle.ieee.specs.Constants.{minus_zero}
@@ -15,19 +14,16 @@ use Rattle.lists.specs.Fill.{joined_range}
 use Rattle.params.specs.declared.Mode.{Mode}
 use Rattle.params.specs.declared.SegmentKind.{SegmentKind}
 use Rattle.params.specs.Params.{carriers_per_segment, total_carriers, kind_from}
-use Rattle.tables.specs.declared.Positions.{Positions}
-use Rattle.tables.specs.Places.{Listed, tmcc_of}
-use Rattle.tables.specs.Fronts.{front}
+use Rattle.tables.specs.Places.{tmcc_of}
 use Rattle.tables.specs.Rule.{tmcc_below}
 use Rattle.ofdm.specs.Band.{segment_at}
 use Rattle.tmcc.specs.Tmcc.{passes, place_tmcc, tmcc_carriers, soft_term, soft_value}
 use Rattle.tmcc.specs.Inner.{Addable, added_to}
 
 -- the places of a row can be added
-pub addable : (mode : Mode) (place n : ℕ) (kind : SegmentKind) (seg : ℕ) (r : Positions) → place < 13 → n ≡ 4 * total_carriers mode → seg < 13
-    → Listed r (tmcc_of mode kind seg) → Addable mode place (front r) n
-addable mode place n kind seg r h two in_table l =
-    rw l.places (record { in_band = h; in_segment = tmcc_below mode kind seg in_table; two = two })
+pub addable : {mode : Mode} {place n seg : ℕ} {row : List ℕ} (kind : SegmentKind) → place < 13 → n ≡ 4 * total_carriers mode → seg < 13
+    → row ≡ tmcc_of mode kind seg → Addable mode place row n
+addable {mode} {seg = seg} kind h two in_table e = rw e (record { in_band = h; in_segment = tmcc_below mode kind seg in_table; two = two })
 
 -- ---- the loop
 module _ (mode : Mode) (kinds : List ℕ) (filter : ℕ) (xs : List Float) where
@@ -37,23 +33,20 @@ module _ (mode : Mode) (kinds : List ℕ) (filter : ℕ) (xs : List Float) where
   abbrev carriers_at : ℕ → List ℕ
   carriers_at place = place_tmcc mode kinds filter place
 
-  pub record Summed (sum : Float) (place : ℕ) : Type 0 where
-    pub passed : place ≤ 13
-    pub summed : sum ≡ total binary32 minus_zero (terms (joined carriers_at (range place)))
+  abbrev pub Summed : Float → ℕ → Type 0
+  Summed sum place = sum ≡ total binary32 minus_zero (terms (joined carriers_at (range place)))
 
   pub begin : Summed minus_zero 0
   unfolding total
-  begin = record { passed = omega arith; summed = refl }
+  begin = refl
 
-  pub done : (sum : Float) (place : ℕ) → Summed sum place → 13 ≤ place → sum ≡ soft_value mode kinds filter xs
+  pub done : (sum : Float) → Summed sum 13 → sum ≡ soft_value mode kinds filter xs
   unfolding soft_value tmcc_carriers
-  done sum place s h =
-      let all : place ≡ 13 = omega (arith, s.passed) in
-      rw all at s.summed
+  done sum s = s
 
-  module _ (sum : Float) (place : ℕ) (s : Summed sum place) (h : place < 13) where
+  module _ (sum : Float) (place : ℕ) (s : Summed sum place) where
     more : (sum' : Float) → sum' ≡ total binary32 sum (terms (carriers_at place)) → Summed sum' (place + 1)
-    more sum' e = record { passed = omega arith; summed = e ∙ rw (add-one place, joined_range carriers_at place, map-append, total_append, s.summed) }
+    more sum' e = e ∙ rw (add-one place, joined_range carriers_at place, map-append, total_append, s)
 
     -- the segment at the place, and whether its kind passes
     module _ (seg : ℕ) (kind : SegmentKind) (b : Bool) (at : seg ≡ segment_at place) (k : kind ≡ kind_from (get_or kinds seg 0))
@@ -65,7 +58,7 @@ module _ (mode : Mode) (kinds : List ℕ) (filter : ℕ) (xs : List Float) where
       unfolding total
       skip e = more sum (rw (carriers_are, e))
 
-      pub further : (r : Positions) (sum' : Float) → b ≡ true → Listed r (tmcc_of mode kind seg) → sum' ≡ added_to sum mode place xs (front r)
+      pub further : (row : List ℕ) (sum' : Float) → b ≡ true → row ≡ tmcc_of mode kind seg → sum' ≡ added_to sum mode place xs row
           → Summed sum' (place + 1)
       unfolding added_to
-      further r sum' e l a = more sum' (a ∙ rw (carriers_are, e, map-map, l.places))
+      further row sum' e l a = more sum' (a ∙ rw (carriers_are, e, map-map, l))

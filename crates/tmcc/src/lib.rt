@@ -35,14 +35,12 @@ fn add_places(start: f32, mode: Mode, place: BandPlace, places: &[u16], spectra:
 {
     let len = mode.total_carriers();
     let mut sum = start;
-    let mut i: usize = 0;
-    while i < places.len() {
-        let k = ofdm::band_carrier(mode, place, SegmentPlace(places[i] as usize));
+    for p in places {
+        let k = ofdm::band_carrier(mode, place, SegmentPlace(*p as usize));
         let later = spectra::pair_at(spectra, len + k.0);
         let earlier = spectra::pair_at(spectra, k.0);
-        let p = later * earlier.conj();
-        sum = sum + p.re;
-        i += 1;
+        let product = later * earlier.conj();
+        sum = sum + product.re;
     }
     sum
 }
@@ -54,18 +52,14 @@ fn soft_value(layout: FrameLayout, spectra: &[f32], filter: u8) -> f32
 {
     let mode = layout.mode;
     let mut sum = ieee::NEGATIVE_ZERO;
-    let mut number: usize = 0;
-    while number < 13 {
+    for number in 0..13 {
         let place = BandPlace(number);
         let seg = ofdm::segment_at_position(place);
         let kind = layout.kind(seg);
         if passes(filter, kind) {
             let row = tables::tmcc_positions(mode, kind, seg.0);
-            let places = row.places;
-            let count = row.count;
-            sum = add_places(sum, mode, place, &places[..count], spectra);
+            sum = add_places(sum, mode, place, row, spectra);
         }
-        number += 1;
     }
     sum
 }

@@ -4,7 +4,7 @@ use Prim.Native.Nat.{ℕ, ◌<◌}
 use mathlib.Core.List.{List}
 use mathlib.Core.Path.{◌≡◌, sym, ◌∙◌}
 use native.Mathlib.Omega.{arith}
-use borrow.Author.Tests.{eq-eqb, ne_eqb}
+use borrow.Author.Tests.{ne_eqb}
 use lib.ListN.{get_or}
 use Rattle.params.specs.declared.Mode.{Mode}
 use Rattle.params.specs.declared.SegmentKind.{SegmentKind}
@@ -13,15 +13,11 @@ use Rattle.params.specs.Laws.{sized}
 use Rattle.ofdm.specs.Band.{first_carrier, segment_at, band_place, segment_place}
 use Rattle.ofdm.specs.Laws.{in_band}
 use Rattle.frame.specs.declared.CarrierRole.{CarrierRole}
-use Rattle.frame.specs.declared.CarrierRole.TheVariants.{EdgeCp}
 use Rattle.frame.specs.Roles.{ofdm_segment, place_role, role_at, wide}
 use Rattle.frame.specs.OneRole.{segment_in_lem}
 use Rattle.carrier_role.proofs.band_role.Goals as goal
 
 module _ (mode : Mode) (kinds : List ℕ) (phase k edge : ℕ) (inside : k < total_carriers mode) (last : edge ≡ first_carrier mode 13) where
-  at_edge : k ≡ edge → EdgeCp ≡ role_at mode phase (wide kinds) k
-  at_edge e = rw (eq-eqb k (first_carrier mode 13) (e ∙ last))
-
   module _ (below : k ≡ edge → ⊥) where
     not_last : k ≡ first_carrier mode 13 → ⊥
     not_last e = below (e ∙ sym last)
@@ -38,16 +34,6 @@ module _ (mode : Mode) (kinds : List ℕ) (phase k edge : ℕ) (inside : k < tot
         → r ≡ role_at mode phase (wide kinds) k
     of_place place seg p kind r b s q t e =
         rw (ne_eqb k (first_carrier mode 13) not_last, segment_in_lem kinds (band_place mode k) place_below) (e ∙ rw (t, s, b, q))
-
-pub returns-then-k-edge : goal.returns-then-k-edge
-returns-then-k-edge c =
-    let a = c.args in
-    at_edge a.layout.mode a.layout.kinds a.phase a.k.0 _ c.requires c.first_carrier-edge.ensures c.if-k-edge.true
-
-pub carrier_place-at-requires : goal.carrier_place-at-requires
-carrier_place-at-requires c =
-    let a = c.args in
-    below_edge a.layout.mode a.layout.kinds a.phase a.k.0 _ c.requires c.first_carrier-edge.ensures c.if-k-edge.false
 
 pub returns : goal.returns
 returns c =

@@ -20,5 +20,4 @@ overflow_add-room c = room_fits _ _ (omega arith)
 
 pub returns : goal.returns
 returns c =
-    let m = c.least.ensures in
-    some_inside _ _ c.requires _ c.skipped-before.ensures _ c.if-offsets-before.false c.if-win-first.false m.0 m.1 m.2
+    some_inside _ _ c.requires _ c.skipped-before.ensures _ c.if-offsets-before.false c.if-win-first.false c.min.ensures

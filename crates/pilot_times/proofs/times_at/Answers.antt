@@ -1,15 +1,10 @@
 -- `pilot_times::times_at` meets its contract: the spectra found lie in a window of at most 1,024, so their offsets can be summed.
 -- Assumes nothing.
-use native.Mathlib.Omega.{arith}
-use Rattle.pilot_times.specs.Summing.{inside_larger}
+use mathlib.Core.Path.{◌∙◌}
+use Rattle.pilot_times.specs.Summing.{spread_is}
 use Rattle.pilot_times.proofs.times_at.Goals as goal
 
-pub mean_offset-mean-requires : goal.mean_offset-mean-requires
-mean_offset-mean-requires c =
-    let p = c.requires in
-    (inside_larger _ 1024 _ p.few c.sent_in-sent.ensures.inside, omega (arith, p.current, p.few))
-
-pub spread_about-spread-requires : goal.spread_about-spread-requires
-spread_about-spread-requires c =
-    let p = c.requires in
-    (inside_larger _ 1024 _ p.few c.sent_in-sent.ensures.inside, omega (arith, p.current, p.few))
+pub returns : goal.returns
+returns c =
+    let spread = c.spread_about-spread.ensures ∙ spread_is c.args.win c.sent_in-sent.result c.mean_offset-mean.result in
+    record { reached = c.sent_in-sent.ensures; timed = record { middle = c.mean_offset-mean.ensures; width = spread } }

@@ -1,6 +1,6 @@
 -- `prbs::band_w` meets its contract: the band is written place by place, and then its edge.
 -- Assumes nothing.
-use Prim.Native.Nat.{ℕ, ◌-◌}
+use Prim.Native.Nat.{ℕ}
 use mathlib.Core.Path.{◌≡◌}
 use lib.ListN.{length}
 use Rattle.lists.specs.Select.{length_up_to}
@@ -16,6 +16,3 @@ size mode seg = length_up_to _ (carriers_per_segment mode)
 
 abbrev pub invariant-loop-place : goal.invariant-loop-place
 invariant-loop-place l = WrittenTo l.mode (segment_signs l.mode) (size l.mode) l.initial.out l.c l.place l.out
-
-abbrev pub decreases-loop-place : goal.decreases-loop-place
-decreases-loop-place l = 13 - l.place

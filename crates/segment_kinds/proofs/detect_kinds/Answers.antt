@@ -1,7 +1,7 @@
 -- `segment_kinds::detect_kinds` meets its contract: each return is the case of the definition that the tests on the way decide.
 -- Assumes nothing.
 use mathlib.Core.Path.{sym, ◌∙◌}
-use Rattle.segment_kinds.proofs.Answers.{bad_mode, refused, banded, answered}
+use Rattle.segment_kinds.proofs.Answers.{bad_mode, refused, answered}
 use Rattle.segment_kinds.proofs.detect_kinds.Goals as goal
 
 pub returns-in_default : goal.returns-in_default
@@ -11,11 +11,6 @@ pub returns-then-code-ne0 : goal.returns-then-code-ne0
 returns-then-code-ne0 c =
     let known = sym c.from_number.ensures ∙ c.in-Known.is in
     refused _ _ known _ _ _ _ _ c.total_carriers.ensures c.continual_metric-code.ensures _ c.if-code-ne0.true c.refused-then-code-ne0.ensures
-
-pub detected-requires : goal.detected-requires
-detected-requires c =
-    let known = sym c.from_number.ensures ∙ c.in-Known.is in
-    banded _ _ known _ _ _ _ _ c.total_carriers.ensures c.continual_metric-code.ensures c.if-code-ne0.false
 
 pub returns : goal.returns
 returns c =

@@ -1,20 +1,13 @@
 -- `segment_kinds::detected` meets its contract: kinds and scores are filled from the front.
 -- Assumes nothing.
-use Prim.Native.Nat.{◌-◌, ◌≤◌}
 use mathlib.Core.List.{◌++◌}
 use mathlib.Core.Path.{◌≡◌}
-use lib.ListN.{length, drop}
+use lib.ListN.{drop}
 use Rattle.lists.specs.Lists.{up_to}
 use Rattle.segment_kinds.specs.SegmentKinds.{kind_score, kind_of_score}
 use Rattle.segment_kinds.proofs.detected.Given as goal
 
 abbrev pub invariant-loop-seg : goal.invariant-loop-seg
 invariant-loop-seg l =
-    (l.seg ≤ 13)
-    × (length l.kinds ≡ 13)
-    × (length l.scores ≡ 13)
-    × (l.kinds ≡ up_to (λ k. kind_of_score (kind_score l.mode l.ratios k)) l.seg ++ drop l.seg l.initial.kinds)
+    (l.kinds ≡ up_to (λ k. kind_of_score (kind_score l.mode l.ratios k)) l.seg ++ drop l.seg l.initial.kinds)
     × (l.scores ≡ up_to (kind_score l.mode l.ratios) l.seg ++ drop l.seg l.initial.scores)
-
-abbrev pub decreases-loop-seg : goal.decreases-loop-seg
-decreases-loop-seg l = 13 - l.seg

@@ -1,11 +1,12 @@
 -- `shift::integer_cfo` meets its contract: each refusal is the case that the tests decide, and the search's best is the winner.
 -- Assumes nothing.
 use lib.IntN.{pos}
-use Rattle.ieee.specs.Differences.{held_exactly, difference_fits, difference_is}
+use Rattle.ieee.specs.Differences.{held_exactly, difference_is}
 use Rattle.shift.proofs.Codes.{by_spectra, by_bound, by_none}
-use Rattle.shift.proofs.Answers.{front_few, front_fits, front_is, front_length, shift_small, written, searchable, bad_mode, refused, answered}
+use Rattle.shift.proofs.Answers.{shift_small, written, searchable, bad_mode, refused, answered}
 use native.Mathlib.Omega.{arith}
-use Rattle.std.proofs.Common.{rules}
+use Rattle.shift.proofs.Segments.{pattern_few}
+use mathlib.Core.Path.{refl}
 use Rattle.shift.proofs.integer_cfo.Goals as goal
 
 pub returns-in_default : goal.returns-in_default
@@ -21,41 +22,20 @@ returns-then-bound-n c =
     let code = by_bound _ _ _ _ _ _ c.fft_size-n.ensures c.refusal-code.ensures c.if-code-ne0.false c.if-bound-n.true in
     refused _ _ c.from_number.ensures _ _ _ _ c.in-Known.is _ code (λ e. omega arith)
 
-pub slice_bounds-buffer-end : goal.slice_bounds-buffer-end
-slice_bounds-buffer-end c = front_fits _ _ _ _ c.put_pattern-count.ensures c.pattern_buffer-buffer.ensures
-
-pub slice_bounds-search-end : goal.slice_bounds-search-end
-slice_bounds-search-end c = front_length _ _ _ _ c.put_pattern-count.ensures c.pattern_buffer-buffer.ensures
-
 pub search-best-requires : goal.search-best-requires
 search-best-requires c =
     let left = written _ _ _ _ _ _ c.refusal-code.ensures c.if-code-ne0.false c.continual_metric.ensures in
-    let bins = front_is _ _ _ _ c.put_pattern-count.ensures c.pattern_buffer-buffer.ensures in
-    searchable c.in-Known.m _ _ _ _ _ c.fft_size-n.ensures left bins c.if-bound-n.false
-
-pub overflow_cast-shift : goal.overflow_cast-shift
-overflow_cast-shift c =
-    let m = c.in-Known.m in
-    let small = shift_small m _ _ _ c.fft_size-n.ensures c.if-bound-n.false c.search-best.ensures.inside in
-    search rules
-
-pub overflow_sub-shift : goal.overflow_sub-shift
-overflow_sub-shift c =
-    let m = c.in-Known.m in
-    difference_fits _ _ (shift_small m _ _ _ c.fft_size-n.ensures c.if-bound-n.false c.search-best.ensures.inside)
+    searchable c.in-Known.m _ _ _ _ _ c.fft_size-n.ensures left c.put_pattern-bins.ensures c.if-bound-n.false
 
 pub int_to_float-score : goal.int_to_float-score
-int_to_float-score c =
-    held_exactly (pos _) (omega (arith, front_few _ _ _ _ c.put_pattern-count.ensures c.pattern_buffer-buffer.ensures))
+int_to_float-score c = held_exactly (pos _) (rw c.put_pattern-bins.ensures (omega (arith, pattern_few c.in-Known.m)))
 
 pub returns : goal.returns
 returns c =
     let bins = c.fft_size-n.ensures in
     let passed = c.if-code-ne0.false in
     let bounded = c.if-bound-n.false in
-    let size = c.pattern_buffer-buffer.ensures in
     answered _ _ c.from_number.ensures _ _ _ _ c.in-Known.is _ _ _ _ _ _
     (by_none _ _ _ _ _ _ bins c.refusal-code.ensures passed bounded)
-    bins (written _ _ _ _ _ _ c.refusal-code.ensures passed c.continual_metric.ensures)
-    (front_is _ _ _ _ c.put_pattern-count.ensures size) (front_length _ _ _ _ c.put_pattern-count.ensures size) c.search-best.ensures
+    bins (written _ _ _ _ _ _ c.refusal-code.ensures passed c.continual_metric.ensures) c.put_pattern-bins.ensures refl c.search-best.ensures
     (difference_is _ _ (shift_small c.in-Known.m _ _ _ bins bounded c.search-best.ensures.inside))

@@ -1,15 +1,10 @@
 -- `tmcc::tmcc_soft` meets its contract: each return is the case of the definition that the tests on the way decide.
 -- Assumes nothing.
-use native.Mathlib.Omega.{arith}
-use Rattle.params.specs.Laws.{sized}
 use Rattle.tmcc.proofs.Answers.{refused_layout, refused_length, refused_filter, answered}
 use Rattle.tmcc.proofs.tmcc_soft.Goals as goal
 
 pub returns-then-code-ne0 : goal.returns-then-code-ne0
 returns-then-code-ne0 c = refused_layout _ _ _ _ _ c.new-new.ensures _ _ c.if-code-ne0.true
-
-pub overflow_mul-total_carriers : goal.overflow_mul-total_carriers
-overflow_mul-total_carriers c = omega (arith, (sized c.new-new.result.layout.mode).band_high)
 
 pub returns-then-spectra-total_carriers : goal.returns-then-spectra-total_carriers
 returns-then-spectra-total_carriers c =
