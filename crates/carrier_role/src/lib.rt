@@ -16,7 +16,7 @@ use ofdm::{BandCarrier, BandPlace, Segment, SegmentPlace};
 use params::{Mode, SegmentKind};
 
 // Whether a row of a table has a place. A row ascends, so the first entry that is not below the place
-// decides.
+// decides, where `contains` would read the row to its end.
 fn has_place(row: &[u16], p: SegmentPlace) -> bool
     requires { Ascending row.now }
     ensures { result ≡ memb p.0 row.now }

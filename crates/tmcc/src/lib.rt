@@ -21,10 +21,7 @@ pub enum SoftTmcc {
 fn passes(filter: u8, kind: SegmentKind) -> bool
     ensures { result ≡ passes filter kind }
 {
-    if filter == 2 {
-        return true;
-    }
-    filter == kind.code()
+    filter == 2 || filter == kind.code()
 }
 
 // Adds the real parts of the products at places of the segment that has a place in the band. `spectra` are
