@@ -81,7 +81,8 @@ fn whole_root(a: u64) -> RootRest
     refine(p5.s, p5.r, 0x400_0000, 0, 0)
 }
 
-// a times the power of 4 that gives it 53 or 54 digits. Only a subnormal goes through the loop.
+// a times the power of 4 that gives it 53 or 54 digits. Only a subnormal goes through the loop, which a
+// test of the digits ends and no count, so it is a while.
 fn lifted(a: u64) -> Lift
     requires { (0 < a) × (a ≤ 18014398509481982) }
     ensures { Lifted a result.a result.i }
