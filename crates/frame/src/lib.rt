@@ -123,10 +123,10 @@ fn mark(row: &[u16], role: u8, out: &mut [u8])
 // Role bytes of a segment's carriers in a symbol with the given SP phase (0 to 3; of no effect in a
 // differential segment), lowest first.
 pub fn segment_roles(mode: Mode, seg: Segment, kind: SegmentKind, phase: u8, out: &mut [u8])
-    requires { InSegment mode seg.0 phase out.old }
-    ensures { out.new ≡ segment_roles mode phase (ofdm_segment seg.0 kind) }
+    requires { InSegment mode seg.number phase out.old }
+    ensures { out.new ≡ segment_roles mode phase (ofdm_segment seg.number kind) }
 {
-    let row = seg.0;
+    let row = seg.number;
     write_pilots(kind, phase, out);
     mark(tables::tmcc_positions(mode, kind, row), TMCC, out);
     mark(tables::ac1_positions(mode, kind, row), AC1, out);
@@ -167,10 +167,9 @@ impl FrameLayout {
 
     // The kind of a segment.
     pub fn kind(self, seg: Segment) -> SegmentKind
-        requires { seg.0 < 13 }
-        ensures { result ≡ kind_from (get_or (kind_codes self.kinds) seg.0 0) }
+        ensures { result ≡ kind_from (get_or (kind_codes self.kinds) seg.number 0) }
     {
-        self.kinds[seg.0]
+        self.kinds[seg.number]
     }
 
     // Role bytes of all carriers of the band, segment after segment from the lowest place.
