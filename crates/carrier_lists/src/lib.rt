@@ -50,7 +50,7 @@ fn collect_data(mode: Mode, roles: &[u8], out: &mut [u32])
     let c = mode.carriers_per_segment();
     let mut at: usize = 0;
     for seg in 0..13 {
-        let first = ofdm::first_carrier(mode, ofdm::segment_position(Segment(seg)));
+        let first = ofdm::first_carrier(mode, ofdm::segment_position(Segment { number: seg }));
         let from = first.0;
         let to = from + c;
         at = collect(&roles[from..to], DATA, DATA, first, out, at);

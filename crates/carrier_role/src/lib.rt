@@ -33,17 +33,15 @@ fn has_place(row: &[u16], p: SegmentPlace) -> bool
 
 // The role of a place that is no pilot: what the tables say, or data.
 fn table_role(mode: Mode, seg: Segment, kind: SegmentKind, p: SegmentPlace) -> CarrierRole
-    requires { seg.0 < 13 }
-    ensures { result ≡ table_role mode kind seg.0 p.0 }
+    ensures { result ≡ table_role mode kind seg.number p.0 }
 {
-    let row = seg.0;
-    if has_place(tables::tmcc_positions(mode, kind, row), p) {
+    if has_place(tables::tmcc_positions(mode, kind, seg), p) {
         return CarrierRole::Tmcc;
     }
-    if has_place(tables::ac1_positions(mode, kind, row), p) {
+    if has_place(tables::ac1_positions(mode, kind, seg), p) {
         return CarrierRole::Ac(AcKind::Ac1);
     }
-    if has_place(tables::ac2_positions(mode, kind, row), p) {
+    if has_place(tables::ac2_positions(mode, kind, seg), p) {
         return CarrierRole::Ac(AcKind::Ac2);
     }
     CarrierRole::Data
@@ -58,8 +56,7 @@ fn place_role(
     phase: u8,
     p: SegmentPlace,
 ) -> CarrierRole
-    requires { seg.0 < 13 }
-    ensures { result ≡ place_role mode (ofdm_segment seg.0 kind) phase p.0 }
+    ensures { result ≡ place_role mode (ofdm_segment seg.number kind) phase p.0 }
 {
     match kind {
         SegmentKind::Coherent => {

@@ -9,15 +9,15 @@
 
 ghost use Rattle.std.specs.Prelude.{◌≡◌, ◌<◌, length, get_or};
 ghost use Rattle.lists.specs.Lists.{up_to};
-ghost use Rattle.params.specs.Params.{mode_from, total_carriers, kind_from, code_of, kind_codes};
+ghost use Rattle.params.specs.Params.{mode_from, carriers_per_segment, total_carriers, kind_from, code_of, kind_codes};
 ghost use Rattle.params.specs.declared.SegmentKind.TheVariants.{Coherent};
 ghost use Rattle.tables.specs.Places.{is_sp};
 ghost use Rattle.frame.specs.Roles.{role_byte, ofdm_segment, segment_roles, band_roles, wide, between};
-ghost use Rattle.frame.specs.Inner.{pilot_byte, marked, Markable, InSegment, KindsTold, LayoutTold};
+ghost use Rattle.frame.specs.Inner.{pilot_byte, marked, Markable, KindsTold, LayoutTold};
 ghost use Rattle.frame.specs.Operations.{RoleMap};
 
 use ofdm::{BandPlace, Segment, SegmentPlace};
-use params::{Mode, Refusal, SegmentKind};
+use params::{Mode, Phase, Refusal, SegmentKind};
 
 // Role bytes.
 pub const DATA: u8 = 0;
@@ -120,17 +120,16 @@ fn mark(row: &[u16], role: u8, out: &mut [u8])
     }
 }
 
-// Role bytes of a segment's carriers in a symbol with the given SP phase (0 to 3; of no effect in a
-// differential segment), lowest first.
-pub fn segment_roles(mode: Mode, seg: Segment, kind: SegmentKind, phase: u8, out: &mut [u8])
-    requires { InSegment mode seg.number phase out.old }
-    ensures { out.new ≡ segment_roles mode phase (ofdm_segment seg.number kind) }
+// Role bytes of a segment's carriers in a symbol with the given SP phase (of no effect in a differential
+// segment), lowest first.
+pub fn segment_roles(mode: Mode, seg: Segment, kind: SegmentKind, phase: Phase, out: &mut [u8])
+    requires { length out.old ≡ carriers_per_segment mode }
+    ensures { out.new ≡ segment_roles mode phase.number (ofdm_segment seg.number kind) }
 {
-    let row = seg.number;
-    write_pilots(kind, phase, out);
-    mark(tables::tmcc_positions(mode, kind, row), TMCC, out);
-    mark(tables::ac1_positions(mode, kind, row), AC1, out);
-    mark(tables::ac2_positions(mode, kind, row), AC2, out);
+    write_pilots(kind, phase.number, out);
+    mark(tables::tmcc_positions(mode, kind, seg), TMCC, out);
+    mark(tables::ac1_positions(mode, kind, seg), AC1, out);
+    mark(tables::ac2_positions(mode, kind, seg), AC2, out);
 }
 
 // A layout that was accepted: its mode, and the kind of each segment, by segment number.
@@ -173,9 +172,9 @@ impl FrameLayout {
     }
 
     // Role bytes of all carriers of the band, segment after segment from the lowest place.
-    pub fn roles(self, phase: u8, out: &mut [u8])
-        requires { (phase < 4) × (length out.old ≡ total_carriers self.mode) }
-        ensures { out.new ≡ band_roles self.mode phase (wide (kind_codes self.kinds)) }
+    pub fn roles(self, phase: Phase, out: &mut [u8])
+        requires { length out.old ≡ total_carriers self.mode }
+        ensures { out.new ≡ band_roles self.mode phase.number (wide (kind_codes self.kinds)) }
     {
         let mode = self.mode;
         let c = mode.carriers_per_segment();
@@ -198,9 +197,7 @@ pub fn role_map(mode: u8, phase: u8, kinds: &[u8], out: &mut [u8]) -> Result<(),
     ensures { RoleMap (mode_from mode) phase kinds.now out.old (code_of result) out.new }
 {
     let layout = FrameLayout::new(mode, kinds)?;
-    if 3 < phase {
-        return Err(Refusal::BadPhase);
-    }
+    let phase = Phase::try_from(phase)?;
     if out.len() != layout.mode.total_carriers() {
         return Err(Refusal::WrongLength);
     }

@@ -21,7 +21,7 @@ loop-place-preserved c =
     let h = c.loop-place-test.true in
     let kinds = kind_codes c.args.layout.kinds in
     let known : kind_from (get_or kinds (segment_at c.loop-place.place) 0) ≡ c.kind.result =
-    ap (λ (n : ℕ). kind_from (get_or kinds n 0)) (sym c.segment_at_position.ensures.0) ∙ sym c.kind.ensures in
+    ap (λ (n : ℕ). kind_from (get_or kinds n 0)) (sym c.segment_at_position.ensures) ∙ sym c.kind.ensures in
     elim c.match-kind.branch [
       | in-Coherent w ↦
           rw w.run-is

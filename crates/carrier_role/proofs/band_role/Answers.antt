@@ -39,5 +39,5 @@ pub returns : goal.returns
 returns c =
     let a = c.args in
     of_place a.layout.mode (kind_codes a.layout.kinds) a.phase a.k.0 _ c.requires c.first_carrier-edge.ensures c.if-k-edge.false
-    _ _ _ _ _ c.carrier_place-at.ensures.place c.segment_at_position-seg.ensures.0 c.carrier_place-at.ensures.p c.kind.ensures
+    _ _ _ _ _ c.carrier_place-at.ensures.place c.segment_at_position-seg.ensures c.carrier_place-at.ensures.p c.kind.ensures
     c.place_role.ensures

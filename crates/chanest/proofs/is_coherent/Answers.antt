@@ -40,8 +40,8 @@ returns-then-place-ge13 c = rw (le-ltb _ _ c.if-place-ge13.true)
 
 pub returns-in-Coherent : goal.returns-in-Coherent
 returns-in-Coherent c =
-    coherent_there c.args.layout.kinds c.if-place-ge13.false c.segment_at_position.ensures.0 c.kind.ensures c.in-Coherent.is
+    coherent_there c.args.layout.kinds c.if-place-ge13.false c.segment_at_position.ensures c.kind.ensures c.in-Coherent.is
 
 pub returns-in-Differential : goal.returns-in-Differential
 returns-in-Differential c =
-    differential_there c.args.layout.kinds c.if-place-ge13.false c.segment_at_position.ensures.0 c.kind.ensures c.in-Differential.is
+    differential_there c.args.layout.kinds c.if-place-ge13.false c.segment_at_position.ensures c.kind.ensures c.in-Differential.is
