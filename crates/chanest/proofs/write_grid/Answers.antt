@@ -3,6 +3,7 @@
 use mathlib.Core.Path.{sym, ap, ◌∙◌}
 use Rattle.prbs.specs.Buffered.{room, front_length, written_room, written_front, written_length}
 use Rattle.pilot_times.specs.declared.Window.{Window}
+use Rattle.params.specs.Params.{kind_codes}
 use Rattle.chanest.specs.Grid.{grid_of}
 use Rattle.chanest.proofs.Windows.{as_long, writable}
 use Rattle.chanest.proofs.write_grid.Goals as goal
@@ -42,4 +43,4 @@ pub returns : goal.returns
 returns c =
     let a = c.args in
     c.write_points.ensures
-    ∙ ap (λ (x : Window). grid_of a.layout.mode a.layout.kinds a.spectra.now x.current a.out.now) c.window_of-win.ensures
+    ∙ ap (λ (x : Window). grid_of a.layout.mode (kind_codes a.layout.kinds) a.spectra.now x.current a.out.now) c.window_of-win.ensures

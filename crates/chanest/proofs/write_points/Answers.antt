@@ -33,12 +33,6 @@ write_point-requires c =
     placed (still _ _ _ _ _ c.loop-place.invariant h c.lowest_point-lowest.ensures c.requires)
     (low _ _ _ _ _ c.loop-place.invariant h c.lowest_point-lowest.ensures) c.continual_times-continual.ensures
 
-pub overflow_add-place : goal.overflow_add-place
-overflow_add-place c = omega (arith, c.loop-place-test.true)
-
-pub loop-place-smaller : goal.loop-place-smaller
-loop-place-smaller c = omega (arith, c.loop-place-test.true)
-
 pub loop-place-preserved : goal.loop-place-preserved
 loop-place-preserved c =
     let h = c.loop-place-test.true in
@@ -56,9 +50,6 @@ loop-place-preserved c =
       | else-coherent+else-below w ↦
           rw w.out-is (again_open _ _ _ _ _ c.loop-place.invariant h at told w.if-coherent.false w.if-below.false)
     ]
-
-pub shape_of-out : goal.shape_of-out
-shape_of-out c = c.loop-place.invariant.lower.size
 
 pub returns : goal.returns
 returns c =
