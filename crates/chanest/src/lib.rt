@@ -105,7 +105,7 @@ fn write_segment(
 {
     for i in from.0..from.0 + mode.carriers_per_segment() / 3 {
         let point = GridPoint(i);
-        let times = scattered.at(point.back(win.current));
+        let times = scattered.ago[point.back(win.current)];
         write_point(win, times, spectra, signs, point, out);
     }
 }

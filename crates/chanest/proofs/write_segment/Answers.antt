@@ -5,7 +5,7 @@ use mathlib.Core.Path.{◌≡◌, refl}
 use native.Mathlib.Omega.{arith}
 use Rattle.chanest.specs.Grid.{carrier_of, segment_points}
 use Rattle.chanest.proofs.Writing.{nothing, together, exchanged}
-use Rattle.chanest.proofs.Points.{small, within, again, by_window, placed, stored}
+use Rattle.chanest.proofs.Points.{sent_ago, small, within, again, by_window, placed, stored}
 use Rattle.chanest.proofs.write_segment.Goals as goal
 
 pub loop-i-init : goal.loop-i-init
@@ -14,14 +14,13 @@ loop-i-init c = nothing _ _ _
 pub write_point-requires : goal.write_point-requires
 write_point-requires c =
     let low = within c.args.mode _ _ _ c.carriers_per_segment.ensures c.requires.2 c.loop-i-test.true in
-    placed (again c.requires.0 _ c.loop-i.invariant.size) low (c.at-times.ensures.ago _ c.requires.1)
+    placed (again c.requires.0 _ c.loop-i.invariant.size) low (c.requires.1 _ _ c.back.ensures.1)
 
 pub loop-i-preserved : goal.loop-i-preserved
 loop-i-preserved c =
     let low = within c.args.mode _ _ _ c.carriers_per_segment.ensures c.requires.2 c.loop-i-test.true in
-    let times = rw c.back.ensures.0 at (c.at-times.ensures.ago _ c.requires.1) in
     together (omega arith) (omega arith) c.loop-i.invariant
-    (stored (again c.requires.0 _ c.loop-i.invariant.size) low times _ refl c.write_point.ensures)
+    (stored (again c.requires.0 _ c.loop-i.invariant.size) low (sent_ago _ _ c.requires.1 _ c.back.ensures.0 c.back.ensures.1 _) _ refl c.write_point.ensures)
 
 pub returns : goal.returns
 returns c =
