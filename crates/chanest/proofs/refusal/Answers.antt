@@ -1,9 +1,8 @@
 -- `chanest::refusal` meets its contract: each return is the case of the definition that the tests on the way decide.
 -- Assumes nothing.
 use mathlib.Core.Path.{refl}
-use native.Mathlib.Omega.{arith}
 use Rattle.std.proofs.lemmas.Result.{err_from_is_err_and}
-use Rattle.params.specs.Laws.{sized, some_number}
+use Rattle.params.specs.Laws.{some_number}
 use Rattle.chanest.specs.Codes.{by_phase, by_spectra, by_index, by_window, by_length, by_none}
 use Rattle.chanest.proofs.refusal.Goals as goal
 
@@ -15,12 +14,6 @@ returns-in_err-refusal c =
     let p = err_from_is_err_and c.from_residual.result c.from_residual.ensures.1 in
     rw (p.1, p.2)
     (by_spectra _ _ _ _ _ c.total_carriers-k.ensures c.if-current-gt3.false _ c.in_err-refusal.ensures (some_number _))
-
-pub overflow_mul-count : goal.overflow_mul-count
-overflow_mul-count c = omega (arith, (sized c.args.mode).band_high)
-
-pub nonzero_div-count : goal.nonzero_div-count
-nonzero_div-count c = omega (arith, (sized c.args.mode).band)
 
 pub returns-then-current-count : goal.returns-then-current-count
 returns-then-current-count c =

@@ -4,12 +4,9 @@ use Prim.Native.Nat.{◌+◌}
 use mathlib.Core.Path.{◌≡◌, refl}
 use native.Mathlib.Omega.{arith}
 use Rattle.chanest.specs.Grid.{carrier_of, segment_points}
-use Rattle.chanest.proofs.Writing.{nothing, together, exchanged}
-use Rattle.chanest.proofs.Points.{sent_ago, small, within, again, by_window, placed, stored}
+use Rattle.chanest.proofs.Writing.{together, exchanged}
+use Rattle.chanest.proofs.Points.{sent_ago, within, again, by_window, placed, stored}
 use Rattle.chanest.proofs.write_segment.Goals as goal
-
-pub loop-i-init : goal.loop-i-init
-loop-i-init c = nothing _ _ _
 
 pub write_point-requires : goal.write_point-requires
 write_point-requires c =
