@@ -14,8 +14,10 @@ use Rattle.lists.specs.Refusals.{passed}
 use Rattle.lists.specs.Select.{get_or_up_to}
 use Rattle.lists.specs.Tests.{all_in, both_right}
 use Rattle.params.specs.declared.Mode.{Mode}
-use Rattle.params.specs.declared.ModeNumber.TheVariants.{Known}
-use Rattle.params.specs.Params.{fft_size, total_carriers}
+use Rattle.std.proofs.Common.{Option, Some, Result, Ok, Err}
+use Rattle.params.specs.declared.Refusal.{Refusal}
+use Rattle.params.specs.Params as params
+use Rattle.params.specs.Params.{fft_size, total_carriers, refusal_of}
 use Rattle.complex.specs.Changes.{Change, of_samples}
 use Rattle.spectra.specs.Spectra.{spectra_in, bin_pairs}
 use Rattle.spectra.specs.Changes.{Changed, Allowed}
@@ -23,9 +25,7 @@ use Rattle.ratio.specs.Ratio.{bin_ratios, ratio_of, metric_leaves}
 use Rattle.ratio.specs.Codes.{accepted as accepted_ratios}
 use Rattle.ratio.specs.Unchanged.{changed_ratios, changed_ratio_at}
 use Rattle.shift.specs.declared.FoundShift.{FoundShift}
-use Rattle.shift.specs.declared.ShiftAnswer.{ShiftAnswer}
-use Rattle.shift.specs.declared.ShiftAnswer.TheVariants.{Found, Refused}
-use Rattle.shift.specs.Shift.{Winner, moved_bin, pattern, found_of, best_shift, shift_code, shift_number, shift_leaves, shift_answer}
+use Rattle.shift.specs.Shift.{Winner, moved_bin, pattern, found_of, best_shift, shift_code, shift_leaves, shift_answer}
 use Rattle.shift.specs.Moves.{InRange, BeatsAll, MovedRound}
 use Rattle.shift.specs.MovedBins.{moved_below}
 use Rattle.shift.specs.Moved.{pattern_laid, ratios_no_minus, same_winner, moved_winner}
@@ -33,11 +33,10 @@ use Rattle.shift.specs.Facts.{shift_number_lem}
 use Rattle.samples_needed.specs.Samples.{is_mode, is_guard}
 use Rattle.correlation.specs.Correlation.{pairs_in}
 use Rattle.guess.specs.Guess.{guessed, guess_code, guess_answer}
-use Rattle.guess.specs.Louder.{louder}
+use Rattle.guess.specs.Louder.{louder_answer}
 use Rattle.guess.specs.Changed.{changed_guess, changed_parts}
 use Rattle.guess.specs.Facts.{search_number_lem}
-use Rattle.guess.specs.declared.GuardSearch.{GuardSearch}
-use Rattle.guess.specs.declared.GuardSearch.TheVariants as search
+use Rattle.guess.specs.declared.ModeGuess.{ModeGuess}
 use Rattle.cfo_frac.specs.CfoFrac.{cfo_frac}
 use Rattle.cfo_frac.specs.Facts.{times_cfo}
 use Rattle.pilot_phase.specs.PilotPhase.{phase_code}
@@ -58,10 +57,10 @@ accepted code x y z h = go (eqb code 0) (eqb→eq code 0)
 module _ (c : Change) (mode : Mode) (xs ys old : List Float) (A : Allowed c (total_carriers mode) xs)
     (h : Changed c (total_carriers mode) (λ b. b) xs ys) where
   abbrev kinds_number : List Float → ℕ
-  kinds_number zs = kinds_code (Known mode) (length zs) (length old)
+  kinds_number zs = kinds_code (Some mode) (length zs) (length old)
 
   kinds_code_lem : kinds_number ys ≡ kinds_number xs
-  kinds_code_lem = ap (λ (n : ℕ). kinds_code (Known mode) n (length old)) h.long
+  kinds_code_lem = ap (λ (n : ℕ). kinds_code (Some mode) n (length old)) h.long
 
   same_ratios : kinds_number xs ≡ 0 → bin_ratios (total_carriers mode) ys ≡ bin_ratios (total_carriers mode) xs
   unfolding kinds_code
@@ -84,13 +83,9 @@ module _ (c : Change) (mode : Mode) (xs ys old : List Float) (A : Allowed c (tot
       }
 
 -- ---- the shift
-abbrev found_in : ShiftAnswer → FoundShift → FoundShift
-found_in (Found found) other = found
-found_in (Refused code) other = other
-
-abbrev answered : ShiftAnswer → Bool
-answered (Found found) = true
-answered (Refused code) = false
+abbrev found_in : Result FoundShift Refusal → FoundShift → FoundShift
+found_in (Ok found) other = found
+found_in (Err refusal) other = other
 
 module _ (c : Change) (mode : Mode) (bound : ℕ) (s : ℤ) (xs ys old : List Float) (A : Allowed c (fft_size mode) xs)
     (h : Changed c (fft_size mode) (λ b. moved_bin (fft_size mode) b s) xs ys) where
@@ -101,19 +96,19 @@ module _ (c : Change) (mode : Mode) (bound : ℕ) (s : ℤ) (xs ys old : List Fl
   bins = pattern mode
 
   abbrev code_of : List Float → ℕ
-  code_of zs = shift_code (Known mode) (length zs) (length old) bound
+  code_of zs = shift_code (Some mode) (length zs) (length old) bound
 
-  abbrev answer_of : List Float → ShiftAnswer
-  answer_of zs = shift_answer (Known mode) zs bound (length old)
+  abbrev answer_of : List Float → Result FoundShift Refusal
+  answer_of zs = shift_answer (Some mode) zs bound (length old)
 
   abbrev leaves_of : List Float → List Float
-  leaves_of zs = shift_leaves (Known mode) zs bound old
+  leaves_of zs = shift_leaves (Some mode) zs bound old
 
   abbrev best : List Float → Winner
   best zs = best_shift n bins bound (bin_ratios n zs)
 
   shift_code_lem : code_of ys ≡ code_of xs
-  shift_code_lem = ap (λ (k : ℕ). shift_code (Known mode) k (length old) bound) h.long
+  shift_code_lem = ap (λ (k : ℕ). shift_code (Some mode) k (length old) bound) h.long
 
   few_spectra : code_of xs ≡ 0 → spectra_in n (length xs) ≤ 1024
   unfolding shift_code
@@ -132,24 +127,24 @@ module _ (c : Change) (mode : Mode) (bound : ℕ) (s : ℤ) (xs ys old : List Fl
   leaves zs e = rw e refl
 
   -- and the answer is the winner's
-  won : (zs : List Float) → code_of zs ≡ 0 → answer_of zs ≡ Found (found_of bins (best zs))
+  won : (zs : List Float) → code_of zs ≡ 0 → answer_of zs ≡ Ok (found_of bins (best zs))
   unfolding shift_answer
   won zs e = rw e refl
 
   -- an answer with a shift is that of an accepted call
-  was_accepted : (found : FoundShift) → answer_of xs ≡ Found found → code_of xs ≡ 0
-  was_accepted found e = sym (shift_number_lem (Known mode) xs bound (length old)) ∙ ap shift_number e
+  was_accepted : (found : FoundShift) → answer_of xs ≡ Ok found → code_of xs ≡ 0
+  was_accepted found e = sym (shift_number_lem (Some mode) xs bound (length old)) ∙ ap params.code_of e
 
   not_moved : s ≡ pos 0 → answer_of ys ≡ answer_of xs
   unfolding shift_answer
   not_moved z =
       let same : code_of xs ≡ 0 → best ys ≡ best xs = λ e. same_winner n bins (pattern_laid mode) bound (bin_ratios n xs) (bin_ratios n ys)
       (subst (λ (k : ℤ). MovedRound n k (bin_ratios n xs) (bin_ratios n ys)) z (moved_ratios (few_spectra e))) in
-      ap (λ (k : ℕ). cond (eqb k 0) (Found (found_of bins (best ys))) (Refused k)) shift_code_lem
-      ∙ accepted (code_of xs) _ _ (Refused (code_of xs)) (λ e. ap (λ (w : Winner). Found (found_of bins w)) (same e))
+      ap (λ (k : ℕ). cond (eqb k 0) (Ok (found_of bins (best ys))) (Err (refusal_of k))) shift_code_lem
+      ∙ accepted (code_of xs) _ _ (Err (refusal_of (code_of xs))) (λ e. ap (λ (w : Winner). Ok (found_of bins w)) (same e))
 
-  moved_along : (found : FoundShift) → answer_of xs ≡ Found found → Proviso mode bound s (leaves_of xs) found.shift
-      → answer_of ys ≡ Found (record { shift = found.shift +ℤ s; score = found.score })
+  moved_along : (found : FoundShift) → answer_of xs ≡ Ok found → Proviso mode bound s (leaves_of xs) found.shift
+      → answer_of ys ≡ Ok (record { shift = found.shift +ℤ s; score = found.score })
   moved_along found e (beats, inside) =
       let a = was_accepted found e in
       let q : found_of bins (best xs) ≡ found = ap (λ r. found_in r found) (sym (won xs a) ∙ e) in
@@ -160,14 +155,14 @@ module _ (c : Change) (mode : Mode) (bound : ℕ) (s : ℤ) (xs ys old : List Fl
       let i : InRange bound ((best xs).shift +ℤ s) = subst (λ (z : ℤ). InRange bound (z +ℤ s)) (sym Z) inside in
       let m = moved_winner n bins (pattern_laid mode) bound s (bin_ratios n xs) (bin_ratios n ys) (ratios_no_minus n xs) (moved_ratios (few_spectra a)) b i in
       won ys (shift_code_lem ∙ a)
-      ∙ ap (λ (w : Winner). Found (found_of bins w)) m
-      ∙ (λ j. Found (record { shift = (q j).shift +ℤ s; score = (q j).score }))
+      ∙ ap (λ (w : Winner). Ok (found_of bins w)) m
+      ∙ (λ j. Ok (record { shift = (q j).shift +ℤ s; score = (q j).score }))
 
   shift_kept : ShiftKept mode bound s xs ys old
   shift_kept =
       record {
         ratios = λ z.
-            let e = sym (shift_number_lem (Known mode) xs bound (length old)) ∙ z in
+            let e = sym (shift_number_lem (Some mode) xs bound (length old)) ∙ z in
             rw (leaves xs e, leaves ys (shift_code_lem ∙ e)) (moved_ratios (few_spectra e));
         answer = not_moved;
         moved = moved_along;
@@ -204,24 +199,24 @@ module _ (negates : Bool) (c : Change) (modes guards : List ℕ) (room : ℕ) (x
   search_code_lem = ap (λ (k : ℕ). guess_code modes guards k room) h.long
 
   -- what is made of an answer, where it is the same of what an accepted call found
-  by_search : {B : Type 0} (f g : GuardSearch → B) → ((k : ℕ) → f (search.Refused k) ≡ g (search.Refused k))
-      → (search_code xs ≡ 0 → f (guessed ys modes guards) ≡ g (guessed xs modes guards))
+  by_search : {B : Type 0} (f g : Result (Option ModeGuess) Refusal → B) → ((k : ℕ) → f (Err (refusal_of k)) ≡ g (Err (refusal_of k)))
+      → (search_code xs ≡ 0 → f (Ok (guessed ys modes guards)) ≡ g (Ok (guessed xs modes guards)))
       → f (guess_answer ys modes guards room) ≡ g (guess_answer xs modes guards room)
   unfolding guess_answer
   by_search f g refused found =
-      ap (λ (k : ℕ). f (cond (eqb k 0) (guessed ys modes guards) (search.Refused k))) search_code_lem
+      ap (λ (k : ℕ). f (cond (eqb k 0) (Ok (guessed ys modes guards)) (Err (refusal_of k)))) search_code_lem
       ∙ go (eqb (search_code xs) 0) (eqb→eq (search_code xs) 0)
     where
-      go : (b : Bool) → (T b → search_code xs ≡ 0) → f (cond b (guessed ys modes guards) (search.Refused (search_code xs)))
-          ≡ g (cond b (guessed xs modes guards) (search.Refused (search_code xs)))
+      go : (b : Bool) → (T b → search_code xs ≡ 0) → f (cond b (Ok (guessed ys modes guards)) (Err (refusal_of (search_code xs))))
+          ≡ g (cond b (Ok (guessed xs modes guards)) (Err (refusal_of (search_code xs))))
       go true e = found (e tt)
       go false e = refused (search_code xs)
 
   guess_kept : GuessKept c.gain modes guards room xs ys
   guess_kept =
       record {
-        answer = by_search (λ r. r) (louder c.gain) (λ k. refl)
-            (λ e. let p = modes_few modes guards (length xs) room e in changed_guess negates c xs ys modes guards p.0 p.1 A h);
+        answer = by_search (λ r. r) (louder_answer c.gain) (λ k. refl)
+            (λ e. let p = modes_few modes guards (length xs) room e in ap Ok (changed_guess negates c xs ys modes guards p.0 p.1 A h));
         cfo = λ lent. by_search (λ r. cfo_given r lent) (λ r. cfo_given r lent) (λ k. refl)
             (λ e. let p = modes_few modes guards (length xs) room e in
             changed_parts cfo_frac times_cfo negates c xs ys modes guards p.0 p.1 A h lent);

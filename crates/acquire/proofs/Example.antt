@@ -21,7 +21,7 @@ use Rattle.ieee.specs.Sums.{total}
 use Rattle.lists.specs.Lists.{up_to}
 use Rattle.lists.specs.Select.{length_up_to, get_or_up_to}
 use Rattle.params.specs.declared.Mode.TheVariants.{M1}
-use Rattle.params.specs.declared.ModeNumber.TheVariants.{Known}
+use Rattle.std.proofs.Common.{Some, Ok}
 use Rattle.complex.specs.Changes.{Change}
 use Rattle.complex.specs.Complex.{Pair, pair, norm32, norm64}
 use Rattle.complex.specs.Totals.{totals}
@@ -29,7 +29,6 @@ use Rattle.spectra.specs.Spectra.{pair_at, flat, column, bin_pairs}
 use Rattle.spectra.specs.Flat.{length_flat, pair_flat}
 use Rattle.spectra.specs.Changes.{Changed}
 use Rattle.ratio.specs.Ratio.{bin_ratios, ratio_of, correlation, energy, steps, steps_from}
-use Rattle.shift.specs.declared.ShiftAnswer.TheVariants.{Found}
 use Rattle.shift.specs.Shift.{Winner, winner, searched, shifts, best_shift, found_of, pattern, pattern_carriers, moved_bin, sum_at, score_of}
 use Rattle.shift.specs.Shift.{shift_code, shift_leaves, shift_answer}
 use Rattle.shift.specs.Moves.{InRange, score_at, BeatsAll}
@@ -100,9 +99,9 @@ best_of a b c = after (after (after (winner (pos 0) lowest) (negsuc 0) a) (pos 0
 -- ---- a call with a bound of 1 and 2,048 ratios lent
 module _ (xs old : List Float) (X : length xs ≡ 8192) (O : length old ≡ 2048) where
   abbrev left : List Float
-  left = shift_leaves (Known M1) xs 1 old
+  left = shift_leaves (Some M1) xs 1 old
 
-  code_0 : shift_code (Known M1) (length xs) (length old) 1 ≡ 0
+  code_0 : shift_code (Some M1) (length xs) (length old) 1 ≡ 0
   unfolding shift_code
   code_0 = rw (X, O) refl
 
@@ -111,9 +110,9 @@ module _ (xs old : List Float) (X : length xs ≡ 8192) (O : length old ≡ 2048
   left_is = rw code_0 refl
 
   answer_is : (a b c : Float) → sum_at 2048 (pattern M1) left (negsuc 0) ≡ a → sum_at 2048 (pattern M1) left (pos 0) ≡ b
-      → sum_at 2048 (pattern M1) left (pos 1) ≡ c → shift_answer (Known M1) xs 1 (length old) ≡ Found (found_of (pattern M1) (best_of a b c))
+      → sum_at 2048 (pattern M1) left (pos 1) ≡ c → shift_answer (Some M1) xs 1 (length old) ≡ Ok (found_of (pattern M1) (best_of a b c))
   unfolding shift_answer best_shift searched shifts
-  answer_is a b c p q r = rw code_0 (rw (sym left_is) (λ i. Found (found_of (pattern M1) (best_of (p i) (q i) (r i)))))
+  answer_is a b c p q r = rw code_0 (rw (sym left_is) (λ i. Ok (found_of (pattern M1) (best_of (p i) (q i) (r i)))))
 
 -- ---- shifts near 0
 near : (P : ℤ → Type 0) → P (negsuc 1) → P (negsuc 0) → P (pos 0) → P (pos 1) → P (pos 2) → (y : ℤ) → nat_abs y ≤ 2 → P y
@@ -156,8 +155,8 @@ unfolding of_int of_bits round lt
 own_wins = refl
 
 pub met : (old : List Float) → length old ≡ 2048
-    → (shift_answer (Known M1) (capture own) 1 (length old) ≡ Found (record { shift = pos 0; score = of_bits binary32 0x3f80_0000 }))
-    × Proviso M1 1 (pos 1) (shift_leaves (Known M1) (capture own) 1 old) (pos 0)
+    → (shift_answer (Some M1) (capture own) 1 (length old) ≡ Ok (record { shift = pos 0; score = of_bits binary32 0x3f80_0000 }))
+    × Proviso M1 1 (pos 1) (shift_leaves (Some M1) (capture own) 1 old) (pos 0)
 met old O =
     let X = capture_length own in
     let sums : (z : ℤ) → sum_at 2048 (pattern M1) (left (capture own) old X O) z ≡ marks_met own z =
@@ -167,8 +166,8 @@ met old O =
     λ z h e. sums z ∙ own_near z h e in (
       answer_is (capture own) old X O (marks 0) (marks 27) (marks 0)
           (off (negsuc 0) (omega arith) (λ e. absurd (pos-ne-negsuc 0 0 (sym e)))) at_0 (off (pos 1) (omega arith) one_is_not_0)
-          ∙ (λ i. Found (found_of (pattern M1) (sym own_wins i)))
-          ∙ ap (λ (score : Float). Found (record { shift = pos 0; score = score })) all_met,
+          ∙ (λ i. Ok (found_of (pattern M1) (sym own_wins i)))
+          ∙ ap (λ (score : Float). Ok (record { shift = pos 0; score = score })) all_met,
       (
         λ y h e. rw (off y h e, at_0) none_less,
         omega arith,
@@ -215,10 +214,10 @@ still = record { negates = λ j. false; turns = false; gain = 0 }
 -- Shift 0 beats every other shift up to the bound, 1, and moved by 1 it stays in range; but the moved capture has shift -1, not 0 + 1.
 pub record NotWidened (xs ys old : List Float) : Type 0 where
   pub moved : Changed still 2048 (λ b. moved_bin 2048 b (pos 1)) xs ys
-  pub answer : shift_answer (Known M1) xs 1 (length old) ≡ Found (record { shift = pos 0; score = score 2 })
-  pub beats : BeatsAll 2048 (pattern M1) (shift_leaves (Known M1) xs 1 old) 1 (pos 0)
+  pub answer : shift_answer (Some M1) xs 1 (length old) ≡ Ok (record { shift = pos 0; score = score 2 })
+  pub beats : BeatsAll 2048 (pattern M1) (shift_leaves (Some M1) xs 1 old) 1 (pos 0)
   pub inside : InRange 1 (pos 0 +ℤ pos 1)
-  pub astray : shift_answer (Known M1) ys 1 (length old) ≡ Found (record { shift = negsuc 0; score = score 27 })
+  pub astray : shift_answer (Some M1) ys 1 (length old) ≡ Ok (record { shift = negsuc 0; score = score 27 })
 
 module _ (old : List Float) (O : length old ≡ 2048) where
   abbrev before : List Float
@@ -246,7 +245,7 @@ module _ (old : List Float) (O : length old ≡ 2048) where
   sums_moved : (z : ℤ) → sum_at 2048 (pattern M1) left_moved (z +ℤ pos 1) ≡ marks_met astray z
   sums_moved z =
       let kept = (demand_3 still (pos 1)).shift M1 1 before moved old (inl refl) is_moved in
-      let accepted = shift_number_lem (Known M1) before 1 (length old) ∙ code_0 before old (capture_length astray) O in
+      let accepted = shift_number_lem (Some M1) before 1 (length old) ∙ code_0 before old (capture_length astray) O in
       moved_sum 2048 (pattern M1) (pattern_laid M1) (pos 1) z left_before left_moved (kept.ratios accepted) ∙ sums_before z
 
   pub not_widened : NotWidened before moved old
@@ -259,7 +258,7 @@ module _ (old : List Float) (O : length old ≡ 2048) where
         moved = is_moved;
         answer =
             answer_is before old (capture_length astray) O (marks 0) (marks 2) (marks 1) next here above
-            ∙ (λ i. Found (found_of (pattern M1) (sym here_wins i)));
+            ∙ (λ i. Ok (found_of (pattern M1) (sym here_wins i)));
         beats = λ y h.
             near (λ y. nat_abs y ≤ 1 → (y ≡ pos 0 → ⊥) → T (lt (score_at 2048 (pattern M1) left_before y) (score_at 2048 (pattern M1) left_before (pos 0))))
             (λ k e. absurd (omega arith)) (λ k e. rw (next, here) less.0) (λ k e. absurd (e refl)) (λ k e. rw (above, here) less.1)
@@ -268,5 +267,5 @@ module _ (old : List Float) (O : length old ≡ 2048) where
         astray =
             answer_is moved old moved_length O (marks 27) (marks 0) (marks 2) (sums_moved (negsuc 1) ∙ a.below) (sums_moved (negsuc 0) ∙ a.next)
             (sums_moved (pos 0) ∙ a.here)
-            ∙ (λ i. Found (found_of (pattern M1) (sym below_wins i)));
+            ∙ (λ i. Ok (found_of (pattern M1) (sym below_wins i)));
       }

@@ -9,37 +9,35 @@
 --                          there is no premise: NaNs and infinities are taken too (spectra/specs/Changes)
 --   moved_bin, MovedRound  bin b moved by s is bin (b + s) mod n, and a list of ratios so moved (shift/specs/Shift, shift/specs/Moves)
 --   InRange, BeatsAll      from -bound to bound; to have the greater score, which no NaN does or suffers (shift/specs/Moves)
---   louder                 both parts of the correlation times the gain twice, and all else as it was (guess/specs/Louder)
+--   louder_answer          both parts of the correlation times the gain twice, and all else as it was (guess/specs/Louder)
 --   cfo_frac               the fractional carrier offset that both parts tell (cfo_frac/specs/CfoFrac)
 -- Answers, and what is left in lent lists, are the definitions that the operations' contracts cite.
 -- Definitions only.
-use Rattle.std.specs.Prelude.{ℕ, ◌+◌, Bool, List, ◌≡◌, ℤ, pos, nat_abs, ◌+ℤ◌, length, Float}
+use Rattle.std.specs.Prelude.{ℕ, ◌+◌, Bool, List, ◌≡◌, ℤ, pos, nat_abs, ◌+ℤ◌, length, Float, Option, Some, Result, Ok}
 use Rattle.params.specs.declared.Mode.{Mode}
-use Rattle.params.specs.declared.ModeNumber.{ModeNumber}
-use Rattle.params.specs.declared.ModeNumber.TheVariants.{Known}
-use Rattle.params.specs.Params.{fft_size, total_carriers}
+use Rattle.params.specs.declared.Refusal.{Refusal}
+use Rattle.params.specs.Params.{fft_size, total_carriers, code_of}
 use Rattle.complex.specs.Complex.{pair}
 use Rattle.complex.specs.Changes.{Change, of_samples}
 use Rattle.spectra.specs.Changes.{Changed, Allowed}
 use Rattle.shift.specs.declared.FoundShift.{FoundShift}
-use Rattle.shift.specs.declared.ShiftAnswer.TheVariants.{Found}
-use Rattle.shift.specs.Shift.{moved_bin, pattern, shift_number, shift_leaves, shift_answer}
+use Rattle.shift.specs.Shift.{moved_bin, pattern, shift_leaves, shift_answer}
 use Rattle.shift.specs.Moves.{InRange, BeatsAll, MovedRound}
-use Rattle.guess.specs.declared.GuardSearch.{GuardSearch}
-use Rattle.guess.specs.Guess.{search_number, guess_answer, guess_given}
-use Rattle.guess.specs.Louder.{louder}
+use Rattle.guess.specs.declared.ModeGuess.{ModeGuess}
+use Rattle.guess.specs.Guess.{guess_answer, guess_given}
+use Rattle.guess.specs.Louder.{louder_answer}
 use Rattle.cfo_frac.specs.CfoFrac.{cfo_frac}
-use Rattle.pilot_phase.specs.PilotPhase.{phase_number, phase_answer, counts_answer, lead_answer}
+use Rattle.pilot_phase.specs.PilotPhase.{phase_answer, counts_answer, lead_answer}
 use Rattle.segment_kinds.specs.SegmentKinds.{kinds_code, kinds_leaves, kinds_answer, scores_answer}
 
 -- ---- refusals: the answer for ys has the number of the answer for xs, whatever the two hold; `mode` is any number, also one that is no mode.
 -- `room` is how many ratios, and how much scratch, are lent
 pub record RefusedAlike (xs ys : List Float) : Type 0 where
-  pub shift : (mode : ModeNumber) (bound room : ℕ) → shift_number (shift_answer mode ys bound room) ≡ shift_number (shift_answer mode xs bound room)
-  pub kinds : (mode : ModeNumber) (room : ℕ) → kinds_code mode (length ys) room ≡ kinds_code mode (length xs) room
-  pub phase : (mode : ModeNumber) (kinds : List ℕ) → phase_number (phase_answer mode kinds ys) ≡ phase_number (phase_answer mode kinds xs)
+  pub shift : (mode : Option Mode) (bound room : ℕ) → code_of (shift_answer mode ys bound room) ≡ code_of (shift_answer mode xs bound room)
+  pub kinds : (mode : Option Mode) (room : ℕ) → kinds_code mode (length ys) room ≡ kinds_code mode (length xs) room
+  pub phase : (mode : Option Mode) (kinds : List ℕ) → code_of (phase_answer mode kinds ys) ≡ code_of (phase_answer mode kinds xs)
   pub guess : (modes guards : List ℕ) (room : ℕ)
-      → search_number (guess_answer ys modes guards room) ≡ search_number (guess_answer xs modes guards room)
+      → code_of (guess_answer ys modes guards room) ≡ code_of (guess_answer xs modes guards room)
 
 -- ---- the shift: spectra xs of n pairs, changed and their bins moved round by s
 -- the proviso of a move by s: by the ratios, shift z beats every other one of the range widened by the move, and moved along it stays in range
@@ -48,35 +46,35 @@ Proviso mode bound s ratios z = BeatsAll (fft_size mode) (pattern mode) ratios (
 
 pub record ShiftKept (mode : Mode) (bound : ℕ) (s : ℤ) (xs ys old : List Float) : Type 0 where
   -- after an accepted call the ratios left behind are moved round by s, bit for bit
-  pub ratios : shift_number (shift_answer (Known mode) xs bound (length old)) ≡ 0
-      → MovedRound (fft_size mode) s (shift_leaves (Known mode) xs bound old) (shift_leaves (Known mode) ys bound old)
+  pub ratios : code_of (shift_answer (Some mode) xs bound (length old)) ≡ 0
+      → MovedRound (fft_size mode) s (shift_leaves (Some mode) xs bound old) (shift_leaves (Some mode) ys bound old)
   -- not moved, the answer is the same
-  pub answer : s ≡ pos 0 → shift_answer (Known mode) ys bound (length old) ≡ shift_answer (Known mode) xs bound (length old)
+  pub answer : s ≡ pos 0 → shift_answer (Some mode) ys bound (length old) ≡ shift_answer (Some mode) xs bound (length old)
   -- moved, the shift moves along, with the same score, if it meets the proviso
-  pub moved : (found : FoundShift) → shift_answer (Known mode) xs bound (length old) ≡ Found found
-      → Proviso mode bound s (shift_leaves (Known mode) xs bound old) found.shift
-      → shift_answer (Known mode) ys bound (length old) ≡ Found (record { shift = found.shift +ℤ s; score = found.score })
+  pub moved : (found : FoundShift) → shift_answer (Some mode) xs bound (length old) ≡ Ok found
+      → Proviso mode bound s (shift_leaves (Some mode) xs bound old) found.shift
+      → shift_answer (Some mode) ys bound (length old) ≡ Ok (record { shift = found.shift +ℤ s; score = found.score })
 
 -- ---- the kinds: spectra of k_total pairs, changed
 pub record KindsKept (mode : Mode) (xs ys old : List Float) : Type 0 where
-  pub kinds : kinds_answer (Known mode) ys (length old) ≡ kinds_answer (Known mode) xs (length old)
-  pub scores : scores_answer (Known mode) ys (length old) ≡ scores_answer (Known mode) xs (length old)
-  pub ratios : kinds_leaves (Known mode) ys old ≡ kinds_leaves (Known mode) xs old
+  pub kinds : kinds_answer (Some mode) ys (length old) ≡ kinds_answer (Some mode) xs (length old)
+  pub scores : scores_answer (Some mode) ys (length old) ≡ scores_answer (Some mode) xs (length old)
+  pub ratios : kinds_leaves (Some mode) ys old ≡ kinds_leaves (Some mode) xs old
 
 -- ---- the pilot phase: spectra of k_total pairs, changed; none, or the phase with its share, the four counts and the lead
 pub record PhaseKept (mode : Mode) (kinds : List ℕ) (xs ys : List Float) : Type 0 where
-  pub phase : phase_answer (Known mode) kinds ys ≡ phase_answer (Known mode) kinds xs
-  pub counts : counts_answer (Known mode) kinds ys ≡ counts_answer (Known mode) kinds xs
-  pub lead : lead_answer (Known mode) kinds ys ≡ lead_answer (Known mode) kinds xs
+  pub phase : phase_answer (Some mode) kinds ys ≡ phase_answer (Some mode) kinds xs
+  pub counts : counts_answer (Some mode) kinds ys ≡ counts_answer (Some mode) kinds xs
+  pub lead : lead_answer (Some mode) kinds ys ≡ lead_answer (Some mode) kinds xs
 
 -- ---- the guess: samples, negated, turned and amplified
 -- the fractional carrier offset of what a search found, or what was lent where nothing was
-abbrev pub cfo_given : GuardSearch → Float → Float
+abbrev pub cfo_given : Result (Option ModeGuess) Refusal → Float → Float
 cfo_given answer lent = guess_given (λ g. cfo_frac (pair g.re g.im)) answer lent
 
 pub record GuessKept (gain : ℕ) (modes guards : List ℕ) (room : ℕ) (xs ys : List Float) : Type 0 where
   -- found or not, mode, guard, offset and metric are the same, and both parts of the correlation are multiplied by the gain twice
-  pub answer : guess_answer ys modes guards room ≡ louder gain (guess_answer xs modes guards room)
+  pub answer : guess_answer ys modes guards room ≡ louder_answer gain (guess_answer xs modes guards room)
   -- the fractional offset that both parts tell is the same
   pub cfo : (lent : Float) → cfo_given (guess_answer ys modes guards room) lent ≡ cfo_given (guess_answer xs modes guards room) lent
 

@@ -1,6 +1,6 @@
 // The angle whose tangent is i / 64, in quarters of 1/65536 of a turn, for i from 0 to 64; the last
 // stands twice. dev/arctangents writes the numbers.
-pub const ARCTANGENTS: [u16; 66] = [
+pub static ARCTANGENTS: [u16; 66] = [
     0, 652, 1303, 1954, 2604, 3253, 3900, 4545, 5188, 5829, 6467, 7101, 7733, 8361, 8985, 9605,
     10221, 10832, 11439, 12040, 12637, 13228, 13814, 14394, 14968, 15537, 16100, 16656, 17206,
     17750, 18288, 18819, 19344, 19862, 20374, 20879, 21378, 21870, 22355, 22834, 23306, 23771,

@@ -14,6 +14,7 @@ ghost use Rattle.angle.specs.Arctangents.{entry_at};
 ghost use Rattle.angle.specs.Angle.{slope, octant, quarter, mirror, circle_of, angle_of};
 ghost use Rattle.angle.specs.Inner.{digits, exponent, size_of};
 
+use arctangents::ARCTANGENTS;
 use complex::C64;
 
 // A size of m * 2^k units of 2^-1074, of which every f64 is a whole number.
@@ -74,21 +75,13 @@ pub struct Ends {
     pub hi: u64,
 }
 
-fn wide(entry: u16) -> u64
-    ensures { result ≡ entry }
-{
-    entry as u64
-}
-
-// Both are read from one copy, since a constant array is laid on the stack wherever it is named.
 fn ends_at(i: usize) -> Ends
     requires { i < 65 }
     ensures { (result.lo ≡ entry_at i) × (result.hi ≡ entry_at (i + 1)) }
 {
-    let table = arctangents::ARCTANGENTS;
     Ends {
-        lo: wide(table[i]),
-        hi: wide(table[i + 1]),
+        lo: u64::from(ARCTANGENTS[i]),
+        hi: u64::from(ARCTANGENTS[i + 1]),
     }
 }
 
@@ -147,13 +140,13 @@ fn circle_of_bits(x: u64, y: u64) -> u64
 fn circle_of(re: f64, im: f64) -> u64
     ensures { (result ≡ circle_of re im) × (result < 65536) }
 {
-    if re != re {
+    if re.is_nan() {
         return 0;
     }
-    if im != im {
+    if im.is_nan() {
         return 0;
     }
-    circle_of_bits(f64::to_bits(re), f64::to_bits(im))
+    circle_of_bits(re.to_bits(), im.to_bits())
 }
 
 // The angle of a pair in 1/65536 of a turn: above -32768, at most 32768.

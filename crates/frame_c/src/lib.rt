@@ -13,5 +13,5 @@ ghost use Rattle.frame.specs.Operations.{RoleMap};
 pub extern "C" fn role_map(mode: u8, phase: u8, kinds: &[u8], out: &mut [u8]) -> u8
     ensures { RoleMap (mode_from mode) phase kinds.now out.old result out.new }
 {
-    frame::role_map(mode, phase, kinds, out)
+    params::number_of(frame::role_map(mode, phase, kinds, out))
 }

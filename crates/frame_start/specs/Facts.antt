@@ -1,7 +1,8 @@
 -- What a user of the frame start may rely on: a start lies in the list with all of its word; at one start stands one word; fewer than sixteen values
 -- have no start; and of values handed over by their bits, neither a zero's sign nor what a NaN carries matters.
 -- Assumes nothing.
-use Rattle.std.specs.Prelude.{ℕ, ◌+◌, ◌≤◌, ◌<◌, Bool, true, false, cond, List, [], ◌∷◌, map, ◌≡◌, refl, T, Option, Some, None, Float, length, get_or, take, drop}
+use Rattle.std.specs.Prelude.{ℕ, ◌+◌, ◌≤◌, ◌<◌, Bool, true, false, cond, List, [], ◌∷◌, map, ◌≡◌, refl, T, Option, Some, None}
+use Rattle.std.specs.Prelude.{Float, length, get_or, take, drop}
 use Rattle.std.proofs.Common.{sym, ap, ◌∙◌, subst, arith, length-take, length-drop}
 use Rattle.std.specs.Float.{binary32}
 use Rattle.std.specs.Float.Ieee.{lt, of_bits, nan_bits}

@@ -4,7 +4,7 @@
 #![tactic(auto)]
 
 ghost use Rattle.std.specs.Prelude.{◌≡◌, length};
-ghost use Rattle.params.specs.Params.{mode_from};
+ghost use Rattle.params.specs.Params.{mode_from, code_of, given};
 ghost use Rattle.root.specs.Root.{root_of};
 ghost use Rattle.ieee.specs.Narrow.{narrow_of};
 ghost use Rattle.complex.specs.Complex.{pair, norm32, norm64};
@@ -22,28 +22,34 @@ ghost use Rattle.guess.specs.Guess.{guess_answer, scratch_leaves};
 ghost use Rattle.ratio.specs.Ratio.{bin_ratio_answer};
 ghost use Rattle.tmcc.specs.Tmcc.{soft_answer};
 
-use carrier_lists::ContinualList;
-use carrier_role::RoleAnswer;
 use complex::{C32, C64};
-use guess::GuardSearch;
-use ofdm::{BandCarrier, BinLookup};
-use pilot_phase::{PhaseAnswer, PilotPhase};
+use ofdm::BandCarrier;
+use params::Refusal;
 use pilot_times::Current;
-use ratio::BinRatio;
-use samples_needed::SamplesNeeded;
-use shift::ShiftAnswer;
-use tmcc::SoftTmcc;
+
+// Hands an answer on to what is lent for it, and tells its number.
+fn lend<T: Copy>(answer: Result<T, Refusal>, lent: &mut T) -> u8
+    ensures { (result ≡ code_of answer) × (lent.new ≡ given (λ x. x) answer lent.old) }
+{
+    match answer {
+        Ok(value) => {
+            *lent = value;
+            0
+        }
+        Err(refusal) => u8::from(refusal),
+    }
+}
 
 // The FFT bin of carrier k.
 pub fn sillurwy_carrier_bin(mode: u8, k: usize, bin: &mut usize) -> u8
     ensures { CarrierBin (mode_from mode) k bin.old result bin.new }
 {
     match ofdm::bin_lookup(mode, BandCarrier(k)) {
-        BinLookup::Bin(b) => {
-            *bin = b.0;
+        Ok(found) => {
+            *bin = found.0;
             0
         }
-        BinLookup::Refused(code) => code,
+        Err(refusal) => u8::from(refusal),
     }
 }
 
@@ -51,7 +57,7 @@ pub fn sillurwy_carrier_bin(mode: u8, k: usize, bin: &mut usize) -> u8
 pub fn sillurwy_role_map(mode: u8, phase: u8, kinds: &[u8], out: &mut [u8]) -> u8
     ensures { RoleMap (mode_from mode) phase kinds.now out.old result out.new }
 {
-    frame::role_map(mode, phase, kinds, out)
+    params::number_of(frame::role_map(mode, phase, kinds, out))
 }
 
 // The role byte of one carrier of the band.
@@ -59,11 +65,11 @@ pub fn sillurwy_carrier_role(mode: u8, phase: u8, kinds: &[u8], k: usize, role: 
     ensures { RoleLent (role_answer (mode_from mode) phase kinds.now k) role.old result role.new }
 {
     match carrier_role::carrier_role(mode, phase, kinds, BandCarrier(k)) {
-        RoleAnswer::Role(found) => {
-            *role = found.byte();
+        Ok(found) => {
+            *role = u8::from(found);
             0
         }
-        RoleAnswer::Refused(code) => code,
+        Err(refusal) => u8::from(refusal),
     }
 }
 
@@ -71,14 +77,14 @@ pub fn sillurwy_carrier_role(mode: u8, phase: u8, kinds: &[u8], k: usize, role: 
 pub fn sillurwy_sign_map(mode: u8, out: &mut [u8]) -> u8
     ensures { SignMap (mode_from mode) out.old result out.new }
 {
-    prbs::sign_map(mode, out)
+    params::number_of(prbs::sign_map(mode, out))
 }
 
 // The data carriers of the band, in segment-number order.
 pub fn sillurwy_data_list(mode: u8, phase: u8, kinds: &[u8], out: &mut [u32]) -> u8
     ensures { DataList (mode_from mode) phase kinds.now out.old result out.new }
 {
-    carrier_lists::data_list(mode, phase, kinds, out)
+    params::number_of(carrier_lists::data_list(mode, phase, kinds, out))
 }
 
 // The continual carriers of the band, and how many there are.
@@ -86,13 +92,7 @@ pub fn sillurwy_continual_list(mode: u8, kinds: &[u8], out: &mut [u32], count: &
     ensures { ContinualCount (mode_from mode) kinds.now out.old count.old result
         out.new count.new }
 {
-    match carrier_lists::continual_list(mode, kinds, out) {
-        ContinualList::Count(n) => {
-            *count = n;
-            0
-        }
-        ContinualList::Refused(code) => code,
-    }
+    lend(carrier_lists::continual_list(mode, kinds, out), count)
 }
 
 // Samples that the guard search needs for at least `symbols` symbols.
@@ -105,13 +105,10 @@ pub fn sillurwy_samples_needed(
     ensures { SamplesLent (samples_answer modes.now guards.now symbols)
         samples.old result samples.new }
 {
-    match samples_needed::samples_needed(modes, guards, symbols) {
-        SamplesNeeded::Samples(n) => {
-            *samples = n;
-            0
-        }
-        SamplesNeeded::Refused(code) => code,
-    }
+    lend(
+        samples_needed::samples_needed(modes, guards, symbols),
+        samples,
+    )
 }
 
 // The guard search: whether something is found, then the guess. Where nothing is found, what was lent
@@ -134,22 +131,23 @@ pub fn sillurwy_detect_mode(
         found.new mode.new guard.new offset.new metric.new re.new im.new
         × scratch.new ≡ scratch_leaves (length samples.now) modes.now guards.now scratch.old }
 {
-    let search = guess::detect_mode(samples, modes, guards, scratch);
-    let GuardSearch::Found(g) = search else {
-        let GuardSearch::Refused(code) = search else {
+    match guess::detect_mode(samples, modes, guards, scratch) {
+        Ok(Some(guess)) => {
+            *found = 1;
+            *mode = guess.mode;
+            *guard = guess.guard;
+            *offset = guess.offset;
+            *metric = guess.metric;
+            *re = guess.re;
+            *im = guess.im;
+            0
+        }
+        Ok(None) => {
             *found = 0;
-            return 0;
-        };
-        return code;
-    };
-    *found = 1;
-    *mode = g.mode;
-    *guard = g.guard;
-    *offset = g.offset;
-    *metric = g.metric;
-    *re = g.re;
-    *im = g.im;
-    0
+            0
+        }
+        Err(refusal) => u8::from(refusal),
+    }
 }
 
 // The soft value of the TMCC carriers between two spectra.
@@ -163,26 +161,14 @@ pub fn sillurwy_tmcc_soft(
     ensures { SoftLent (soft_answer (mode_from mode) kinds.now spectra.now filter)
         value.old result value.new }
 {
-    match tmcc::tmcc_soft(mode, kinds, spectra, filter) {
-        SoftTmcc::Value(v) => {
-            *value = v;
-            0
-        }
-        SoftTmcc::Refused(code) => code,
-    }
+    lend(tmcc::tmcc_soft(mode, kinds, spectra, filter), value)
 }
 
 // The ratio of one bin, from its pairs in symbol order.
 pub fn sillurwy_bin_ratio(pairs: &[f32], ratio: &mut f32) -> u8
     ensures { BinRatioLent (bin_ratio_answer pairs.now) ratio.old result ratio.new }
 {
-    match ratio::bin_ratio(pairs) {
-        BinRatio::Ratio(x) => {
-            *ratio = x;
-            0
-        }
-        BinRatio::Refused(code) => code,
-    }
+    lend(ratio::bin_ratio(pairs), ratio)
 }
 
 // The shift of spectra, and its score; their ratios stay in `ratios`.
@@ -198,13 +184,12 @@ pub fn sillurwy_integer_cfo(
         ratios.new shift.new score.new }
 {
     match shift::integer_cfo(mode, spectra, bound, ratios) {
-        ShiftAnswer::Found(found) => {
-            let z = found.shift;
-            *shift = z;
+        Ok(found) => {
+            *shift = found.shift;
             *score = found.score;
             0
         }
-        ShiftAnswer::Refused(code) => code,
+        Err(refusal) => u8::from(refusal),
     }
 }
 
@@ -219,16 +204,16 @@ pub fn sillurwy_detect_kinds(
     ensures { KindsLent (mode_from mode) spectra.now ratios.old kinds.old scores.old result
         ratios.new kinds.new scores.new }
 {
-    let answer = segment_kinds::detect_kinds(mode, spectra, ratios);
-    let code = answer.code;
-    if code != 0 {
-        return code;
+    match segment_kinds::detect_kinds(mode, spectra, ratios) {
+        Ok(found) => {
+            for (code, kind) in kinds.iter_mut().zip(found.kinds) {
+                *code = u8::from(kind);
+            }
+            *scores = found.scores;
+            0
+        }
+        Err(refusal) => u8::from(refusal),
     }
-    let found = answer.kinds;
-    let found_scores = answer.scores;
-    *kinds = found;
-    *scores = found_scores;
-    0
 }
 
 // The pilot phase: whether there are scattered pilots, then the phase and its share; the four counts and
@@ -247,23 +232,21 @@ pub fn sillurwy_detect_sp_phase(
         found.old phase.old share.old counts.old lead.old result
         found.new phase.new share.new counts.new lead.new }
 {
-    let result = pilot_phase::detect_sp_phase(mode, kinds, spectra);
-    let answer = result.answer;
-    match answer {
-        PhaseAnswer::Detected(pilots) => {
-            let votes = result.counts;
-            *counts = votes;
-            *lead = result.lead;
-            let PilotPhase::Phase(number, part) = pilots else {
-                *found = 0;
-                return 0;
-            };
-            *found = 1;
-            *phase = number;
-            *share = part;
+    match pilot_phase::detect_sp_phase(mode, kinds, spectra) {
+        Ok(answer) => {
+            *counts = answer.counts;
+            *lead = answer.lead;
+            match answer.phase {
+                Some(told) => {
+                    *found = 1;
+                    *phase = told.phase;
+                    *share = told.share;
+                }
+                None => *found = 0,
+            }
             0
         }
-        PhaseAnswer::Refused(code) => code,
+        Err(refusal) => u8::from(refusal),
     }
 }
 
@@ -298,7 +281,7 @@ pub fn sillurwy_estimate_grid(
         grid.old result grid.new }
 {
     let current = Current { phase, index, w };
-    chanest::estimate_grid(mode, kinds, spectra, current, grid)
+    params::number_of(chanest::estimate_grid(mode, kinds, spectra, current, grid))
 }
 
 // The f64 nearest to the root of x.

@@ -6,9 +6,11 @@ ghost use Rattle.std.specs.Prelude.{◌≡◌, ◌≤◌, ◌+◌, length};
 ghost use Rattle.text.specs.Put.{Put};
 ghost use Rattle.open_line.specs.Gather.{new_line, pushed, held_answer, held_last};
 
+use params::Refusal;
 use segment_answer::{put_answer, put_refused};
 
-// A line that is open: its first 17 bytes, and how many it has, where 18 stands for more.
+// A line that is open: its first 17 bytes, and how many it has, where 18 stands for more. Fixed bytes
+// and a count, no Vec: the library allocates nothing.
 #[derive(Clone, Copy)]
 pub struct Line {
     pub bytes: [u8; 17],
@@ -26,37 +28,36 @@ impl Line {
     }
 
     // The line with a byte more.
-    pub fn push(self, b: u8) -> Line
+    pub fn push(mut self, b: u8) -> Line
         ensures { result ≡ pushed self b }
     {
-        let at = self.len;
-        let mut next = self;
-        if at < 17 {
-            next.bytes[at] = b;
-            next.len = at + 1;
-            return next;
+        if self.len < 17 {
+            self.bytes[self.len] = b;
+            self.len += 1;
+        } else {
+            self.len = 18;
         }
-        next.len = 18;
-        next
+        self
     }
 }
 
 // Stores the answer to the line that is held, and gives the index behind it.
+#[tactic(auto, unfolding(crate::specs::Gather::held_answer))]
 pub fn answer_line(line: Line, out: &mut [u8], at: usize) -> usize
     requires { at + 512 ≤ length out.old }
     ensures put { Put out.old at (held_answer line) result out.new }
     ensures upper_bound { result ≤ at + 512 }
 {
-    let bytes = line.bytes;
-    if line.len != 17 {
-        return put_refused(out, at, 11);
+    if line.len == 17 {
+        put_answer(out, at, &line.bytes)
+    } else {
+        put_refused(out, at, Refusal::BadForm)
     }
-    put_answer(out, at, &bytes)
 }
 
 // Stores the answer to the last line, which lacks its line feed: nothing where the input ended with
 // one.
-#[tactic(auto, using(crate::proofs::Last::no_last_line, crate::proofs::Last::last_line, text::specs::Laws::put_none))]
+#[tactic(auto, using(text::specs::Laws::put_none), unfolding(crate::specs::Gather::held_last))]
 pub fn finish(line: Line, out: &mut [u8], at: usize) -> usize
     requires { at + 512 ≤ length out.old }
     ensures put { Put out.old at (held_last line) result out.new }

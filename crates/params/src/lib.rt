@@ -5,7 +5,7 @@
 #![tactic(auto)]
 
 ghost use Rattle.std.specs.Prelude.{◌≡◌};
-ghost use Rattle.params.specs.Params.{mode_number, kind_code, kind_from, refusal_number, ModeTold, GuardTold, KindTold};
+ghost use Rattle.params.specs.Params.{mode_number, kind_code, kind_from, refusal_number, code_of, ModeTold, GuardTold, KindTold};
 ghost use Rattle.params.specs.Params.{carriers_per_segment, data_carriers_per_segment, total_carriers, fft_size};
 
 // Why a call is refused. The numbers are what a C host is told, and stay.
@@ -40,6 +40,16 @@ impl From<Refusal> for u8 {
 
     fn from(refusal: Refusal) -> u8 {
         refusal as u8
+    }
+}
+
+// What a C host is told of an answer that hands nothing back: 0, or the number of what refused it.
+pub fn number_of(answer: Result<(), Refusal>) -> u8
+    ensures { result ≡ code_of answer }
+{
+    match answer {
+        Ok(()) => 0,
+        Err(refusal) => u8::from(refusal),
     }
 }
 

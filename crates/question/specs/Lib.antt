@@ -1,2 +1,3 @@
 pub mod Question
+pub mod Asked
 pub mod Laws

@@ -2,73 +2,73 @@
 // refuses it.
 #![tactic(auto)]
 
-ghost use Rattle.std.specs.Prelude.{◌≡◌, ◌≤◌, drop};
-ghost use Rattle.lists.specs.Tests.{all_in};
-ghost use Rattle.question.specs.Question.{is_kind_letter, is_question, line_code};
+ghost use Rattle.std.specs.Prelude.{◌≡◌, IfOk, length};
+ghost use Rattle.params.specs.Params.{code_of};
+ghost use Rattle.question.specs.Question.{line_code};
+ghost use Rattle.question.specs.Asked.{DigitTold, LetterTold, LettersTold, Asked};
 
-use frame::is_between;
+use params::{Mode, Refusal, SegmentKind};
 
-fn is_kind_letter(b: u8) -> bool
-    ensures { result ≡ is_kind_letter b }
-{
-    if b == b'C' {
-        return true;
-    }
-    b == b'D'
+// What a question asks. Its phase is below 4.
+#[derive(Clone, Copy)]
+pub struct Question {
+    pub mode: Mode,
+    pub phase: u8,
+    pub kinds: [SegmentKind; 13],
 }
 
-// Whether the bytes from the fifth on are letters C or D.
-fn are_kind_letters(s: &[u8]) -> bool
-    ensures { result ≡ all_in is_kind_letter (drop 4 s.now) }
+// The value of a digit.
+fn digit(b: u8) -> Result<u8, Refusal>
+    ensures { DigitTold b result }
 {
-    if s.len() < 4 {
-        return true;
+    match b {
+        b'0'..=b'9' => Ok(b - b'0'),
+        _ => Err(Refusal::BadForm),
     }
-    let mut i: usize = 4;
-    while i < s.len() {
-        if !is_kind_letter(s[i]) {
-            return false;
+}
+
+// The kind that a letter stands for.
+fn kind_of(letter: u8) -> Result<SegmentKind, Refusal>
+    ensures { LetterTold letter result }
+{
+    match letter {
+        b'C' => Ok(SegmentKind::Coherent),
+        b'D' => Ok(SegmentKind::Differential),
+        _ => Err(Refusal::BadForm),
+    }
+}
+
+// The kinds that thirteen letters stand for.
+fn read_kinds(letters: &[u8]) -> Result<[SegmentKind; 13], Refusal>
+    requires { length letters.now ≡ 13 }
+    ensures { LettersTold letters.now result }
+{
+    let mut kinds = [SegmentKind::Coherent; 13];
+    for i in 0..13 {
+        let kind = kind_of(letters[i])?;
+        kinds[i] = kind;
+    }
+    Ok(kinds)
+}
+
+impl Question {
+    // The question that a line asks. Refused by 11 unless the line has the form of one, then by 1 for
+    // its mode, then by 3 for its phase.
+    #[tactic(auto, using(crate::proofs::Codes::mode_named, crate::proofs::Codes::mode_unnamed), unfolding(crate::specs::Question::line_code, crate::specs::Question::is_question))]
+    pub fn parse(line: &[u8]) -> Result<Question, Refusal>
+        ensures code { code_of result ≡ line_code line.now }
+        ensures asked { IfOk result (λ question. Asked line.now question) }
+    {
+        if line.len() != 17 || line[1] != b',' || line[3] != b',' {
+            return Err(Refusal::BadForm);
         }
-        i += 1;
+        let number = digit(line[0])?;
+        let phase = digit(line[2])?;
+        let kinds = read_kinds(&line[4..])?;
+        let mode = Mode::try_from(number)?;
+        if 3 < phase {
+            return Err(Refusal::BadPhase);
+        }
+        Ok(Question { mode, phase, kinds })
     }
-    true
-}
-
-// Whether a line has the form of a question.
-fn is_question(s: &[u8]) -> bool
-    ensures { result ≡ is_question s.now }
-{
-    if s.len() != 17 {
-        return false;
-    }
-    if !is_between(b'0', b'9', s[0]) {
-        return false;
-    }
-    if s[1] != b',' {
-        return false;
-    }
-    if !is_between(b'0', b'9', s[2]) {
-        return false;
-    }
-    if s[3] != b',' {
-        return false;
-    }
-    are_kind_letters(s)
-}
-
-// What refuses a line, or 0: its form, then its mode, then its phase.
-pub fn line_code(s: &[u8]) -> usize
-    ensures value { result ≡ line_code s.now }
-    ensures upper_bound { result ≤ 11 }
-{
-    if !is_question(s) {
-        return 11;
-    }
-    if !is_between(b'1', b'3', s[0]) {
-        return 1;
-    }
-    if !is_between(b'0', b'3', s[2]) {
-        return 3;
-    }
-    0
 }

@@ -4,6 +4,8 @@ use Rattle.std.specs.Prelude.{ℕ, ◌+◌, ◌*◌, ◌≤◌, cond, List, eqb,
 use Rattle.std.specs.Float.{Format, binary32, binary64}
 use Rattle.std.specs.Float.Ieee.{is_nan, to_bits}
 use Rattle.replay.specs.declared.Owed.{Owed}
+use Rattle.replay.specs.declared.Size.{Size}
+use Rattle.replay.specs.declared.Size.TheVariants.{One, Four, Eight}
 use Rattle.tally.specs.declared.Tally.{Tally}
 use Rattle.tally.specs.Tally.{Counted, unlike}
 
@@ -17,9 +19,11 @@ word_at bytes at = number_at bytes (at + 2) * 65536 + number_at bytes at
 abbrev pub long_at : List ℕ → ℕ → ℕ
 long_at bytes at = word_at bytes (at + 4) * 4294967296 + word_at bytes at
 
--- the number at a place of numbers that have 1, 4 or 8 bytes each
-unfoldable pub number_of : List ℕ → ℕ → ℕ → ℕ
-number_of bytes size place = cond (eqb size 1) (get_or bytes place 0) (cond (eqb size 4) (word_at bytes (4 * place)) (long_at bytes (8 * place)))
+-- the number at a place of numbers that have so many bytes each
+abbrev pub number_of : List ℕ → Size → ℕ → ℕ
+number_of bytes One place = get_or bytes place 0
+number_of bytes Four place = word_at bytes (4 * place)
+number_of bytes Eight place = long_at bytes (8 * place)
 
 -- the bits of a float; every NaN has the same ones
 abbrev pub stored_bits : Format → ℕ → Float → ℕ
@@ -46,4 +50,4 @@ pub record Holds (stored : List ℕ) (owed : Owed) : Type 0 where
 
 -- r is t with n entries more, each compared with what it must be
 abbrev pub Compared : (ℕ → ℕ) → List ℕ → Owed → ℕ → Tally → Tally → Type 0
-Compared got stored owed n t r = Counted t n (unlike (λ i. eqb (got i) (owed_at stored owed i)) n) t.cut r
+Compared got stored owed n t r = Counted t n (unlike (λ i. eqb (got i) (owed_at stored owed i)) n) r

@@ -1,48 +1,39 @@
 // The stored calls of acquisition, made and compared: what the C library's function returns, and every
-// entry that was lent to be written. A new operation has a function here and a line in `check_call`, and
-// its number in `replay_calls`.
+// entry that was lent to be written. A new operation has a function here and a line in `replay_calls`.
 #![tactic(auto)]
 
-ghost use Rattle.std.specs.Prelude.{◌≤◌};
+use replay::{Answers, Cut, Entry};
+use replay_head::{Call, ROOM};
 
-use replay::{
-    check_byte, check_bytes, check_double, check_doubles, check_float, check_floats, check_signed,
-    check_size, check_word, check_words,
-};
-use replay_head::{Call, answered, broken, call_of, lent_doubles, lent_floats};
-use std::io::Stdin;
-use tally::Tally;
-
-fn samples_needed(input: Stdin, call: Call, modes: &[u8], guards: &[u8]) -> Tally {
-    let mut samples: usize = 77;
+pub fn samples_needed(
+    answers: &mut Answers,
+    call: Call,
+    modes: &[u8],
+    guards: &[u8],
+) -> Result<(), Cut> {
+    let mut samples = usize::HELD;
     let code = host::sillurwy_samples_needed(modes, guards, call.first, &mut samples);
-    check_size(input, samples, answered(code, call))
+    answers.tally.entry(code == call.code);
+    answers.check(samples)
 }
 
 // The scratch is handed back cleared.
-fn detect_mode(input: Stdin, call: Call, samples: &[f32], modes: &[u8], guards: &[u8]) -> Tally
-    requires { call.lent ≤ 32259 }
-{
-    let lent = call.lent;
-    let mut room = lent_doubles();
-    guess(input, call, samples, modes, guards, &mut room[0..lent])
-}
-
-fn guess(
-    input: Stdin,
+pub fn detect_mode(
+    answers: &mut Answers,
     call: Call,
     samples: &[f32],
     modes: &[u8],
     guards: &[u8],
-    scratch: &mut [f64],
-) -> Tally {
-    let mut found: u8 = 77;
-    let mut mode: u8 = 77;
-    let mut guard: u8 = 77;
-    let mut offset: usize = 77;
-    let mut metric: f64 = 77.0;
-    let mut re: f64 = 77.0;
-    let mut im: f64 = 77.0;
+) -> Result<(), Cut> {
+    let mut room = [f64::HELD; ROOM];
+    let scratch = &mut room[..call.lent];
+    let mut found = u8::HELD;
+    let mut mode = u8::HELD;
+    let mut guard = u8::HELD;
+    let mut offset = usize::HELD;
+    let mut metric = f64::HELD;
+    let mut re = f64::HELD;
+    let mut im = f64::HELD;
     let code = host::sillurwy_detect_mode(
         samples,
         modes,
@@ -56,45 +47,22 @@ fn guess(
         &mut re,
         &mut im,
     );
-    let cleared = check_doubles(input, scratch, answered(code, call));
-    check_place(
-        input,
-        offset,
-        metric,
-        re,
-        im,
-        check_guess(input, found, mode, guard, cleared),
-    )
+    answers.tally.entry(code == call.code);
+    answers.check_list(scratch)?;
+    answers.check(found)?;
+    answers.check(mode)?;
+    answers.check(guard)?;
+    answers.check(offset)?;
+    answers.check(metric)?;
+    answers.check(re)?;
+    answers.check(im)
 }
 
-fn check_guess(input: Stdin, found: u8, mode: u8, guard: u8, tally: Tally) -> Tally {
-    check_byte(
-        input,
-        guard,
-        check_byte(input, mode, check_byte(input, found, tally)),
-    )
-}
-
-fn check_place(input: Stdin, offset: usize, metric: f64, re: f64, im: f64, tally: Tally) -> Tally {
-    check_double(
-        input,
-        im,
-        check_double(
-            input,
-            re,
-            check_double(input, metric, check_size(input, offset, tally)),
-        ),
-    )
-}
-
-fn integer_cfo(input: Stdin, call: Call, spectra: &[f32]) -> Tally
-    requires { call.lent ≤ 32259 }
-{
-    let lent = call.lent;
-    let mut room = lent_floats();
-    let ratios: &mut [f32] = &mut room[0..lent];
-    let mut shift: i64 = 77;
-    let mut score: f32 = 77.0;
+pub fn integer_cfo(answers: &mut Answers, call: Call, spectra: &[f32]) -> Result<(), Cut> {
+    let mut room = [f32::HELD; ROOM];
+    let ratios = &mut room[..call.lent];
+    let mut shift = i64::HELD;
+    let mut score = f32::HELD;
     let code = host::sillurwy_integer_cfo(
         call.mode,
         spectra,
@@ -103,44 +71,47 @@ fn integer_cfo(input: Stdin, call: Call, spectra: &[f32]) -> Tally
         &mut shift,
         &mut score,
     );
-    let listed = check_floats(input, ratios, answered(code, call));
-    check_float(input, score, check_signed(input, shift, listed))
+    answers.tally.entry(code == call.code);
+    answers.check_list(ratios)?;
+    answers.check(shift)?;
+    answers.check(score)
 }
 
-// Arrays that were lent keep their length in a function that takes them as arrays.
-fn check_segments(input: Stdin, kinds: &[u8; 13], scores: &[f32; 13], tally: Tally) -> Tally {
-    check_floats(input, scores, check_bytes(input, kinds, tally))
-}
-
-fn check_counts(input: Stdin, counts: &[u32; 4], tally: Tally) -> Tally {
-    check_words(input, counts, tally)
-}
-
-fn detect_kinds(input: Stdin, call: Call, spectra: &[f32]) -> Tally
-    requires { call.lent ≤ 32259 }
-{
-    let lent = call.lent;
-    let mut room = lent_floats();
-    let ratios: &mut [f32] = &mut room[0..lent];
-    let mut kinds = [77u8; 13];
-    let mut scores = [77.0f32; 13];
+pub fn detect_kinds(answers: &mut Answers, call: Call, spectra: &[f32]) -> Result<(), Cut> {
+    let mut room = [f32::HELD; ROOM];
+    let ratios = &mut room[..call.lent];
+    let mut kinds = [u8::HELD; 13];
+    let mut scores = [f32::HELD; 13];
     let code = host::sillurwy_detect_kinds(call.mode, spectra, ratios, &mut kinds, &mut scores);
-    let listed = check_floats(input, ratios, answered(code, call));
-    check_segments(input, &kinds, &scores, listed)
+    answers.tally.entry(code == call.code);
+    answers.check_list(ratios)?;
+    answers.check_list(&kinds)?;
+    answers.check_list(&scores)
 }
 
-fn tmcc_soft(input: Stdin, call: Call, kinds: &[u8], spectra: &[f32]) -> Tally {
-    let mut value: f32 = 77.0;
+pub fn tmcc_soft(
+    answers: &mut Answers,
+    call: Call,
+    kinds: &[u8],
+    spectra: &[f32],
+) -> Result<(), Cut> {
+    let mut value = f32::HELD;
     let code = host::sillurwy_tmcc_soft(call.mode, kinds, spectra, call.choice, &mut value);
-    check_float(input, value, answered(code, call))
+    answers.tally.entry(code == call.code);
+    answers.check(value)
 }
 
-fn detect_sp_phase(input: Stdin, call: Call, kinds: &[u8], spectra: &[f32]) -> Tally {
-    let mut found: u8 = 77;
-    let mut phase: u8 = 77;
-    let mut share: f32 = 77.0;
-    let mut counts = [77u32; 4];
-    let mut lead: u32 = 77;
+pub fn detect_sp_phase(
+    answers: &mut Answers,
+    call: Call,
+    kinds: &[u8],
+    spectra: &[f32],
+) -> Result<(), Cut> {
+    let mut found = u8::HELD;
+    let mut phase = u8::HELD;
+    let mut share = f32::HELD;
+    let mut counts = [u32::HELD; 4];
+    let mut lead = u32::HELD;
     let code = host::sillurwy_detect_sp_phase(
         call.mode,
         kinds,
@@ -151,48 +122,28 @@ fn detect_sp_phase(input: Stdin, call: Call, kinds: &[u8], spectra: &[f32]) -> T
         &mut counts,
         &mut lead,
     );
-    let told = check_byte(input, found, answered(code, call));
-    let shared = check_float(input, share, check_byte(input, phase, told));
-    check_word(input, lead, check_counts(input, &counts, shared))
+    answers.tally.entry(code == call.code);
+    answers.check(found)?;
+    answers.check(phase)?;
+    answers.check(share)?;
+    answers.check_list(&counts)?;
+    answers.check(lead)
 }
 
-fn frame_start(input: Stdin, call: Call, soft: &[f32]) -> Tally {
-    let mut found: u8 = 77;
-    let mut start: usize = 77;
-    let mut word: u8 = 77;
+pub fn frame_start(answers: &mut Answers, call: Call, soft: &[f32]) -> Result<(), Cut> {
+    let mut found = u8::HELD;
+    let mut start = usize::HELD;
+    let mut word = u8::HELD;
     let code = host::sillurwy_frame_start(soft, &mut found, &mut start, &mut word);
-    let told = check_byte(input, found, answered(code, call));
-    check_byte(input, word, check_size(input, start, told))
+    answers.tally.entry(code == call.code);
+    answers.check(found)?;
+    answers.check(start)?;
+    answers.check(word)
 }
 
-fn bin_ratio(input: Stdin, call: Call, pairs: &[f32]) -> Tally {
-    let mut ratio: f32 = 77.0;
+pub fn bin_ratio(answers: &mut Answers, call: Call, pairs: &[f32]) -> Result<(), Cut> {
+    let mut ratio = f32::HELD;
     let code = host::sillurwy_bin_ratio(pairs, &mut ratio);
-    check_float(input, ratio, answered(code, call))
-}
-
-// Makes the call that a head asks for, if there is room for what it lends.
-pub fn check_call(
-    input: Stdin,
-    head: &[u8; 22],
-    bytes: &[u8],
-    more_bytes: &[u8],
-    floats: &[f32],
-) -> Tally {
-    let call = call_of(head);
-    if 32259 < call.lent {
-        return broken();
-    }
-    let operation = head[0];
-    match operation {
-        6 => samples_needed(input, call, bytes, more_bytes),
-        7 => detect_mode(input, call, floats, bytes, more_bytes),
-        8 => integer_cfo(input, call, floats),
-        9 => detect_kinds(input, call, floats),
-        10 => tmcc_soft(input, call, bytes, floats),
-        11 => detect_sp_phase(input, call, bytes, floats),
-        17 => frame_start(input, call, floats),
-        18 => bin_ratio(input, call, floats),
-        _ => broken(),
-    }
+    answers.tally.entry(code == call.code);
+    answers.check(ratio)
 }

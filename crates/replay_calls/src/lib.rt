@@ -1,93 +1,82 @@
 // Reads the rest of a stored record (oracle/README.md, "The stored answers", has the form) and hands it
-// to the part of the requirement that the operation's number belongs to: `replay_layout` and the others
-// make the call and compare what comes of it. The program that reads record after record stands apart:
-// a new operation does not touch it.
+// to its operation: `replay_layout` and the others make the call and compare what comes of it. The
+// program that reads record after record stands apart: a new operation does not touch it.
 //
-// A new operation stands in the crate of its part. Here `check_part` has its number, and `OPERATIONS`
-// counts it.
+// A new operation has its number in `replay_head`, a function in the crate of its part, and a line here.
 #![tactic(auto)]
 
-ghost use Rattle.std.specs.Prelude.{◌≡◌, length};
+use replay::{Answers, Cut, Size};
+use replay_head::{Call, HEAD, Operation, size_at};
+use std::num::f64_from_bits_with_nan;
 
-use replay::Longs;
-use replay_head::{broken, size_at};
-use std::io::Stdin;
-use tally::Tally;
-
-// How many operations there are; their numbers are 1 to this.
-pub const OPERATIONS: u8 = 21;
-
-fn short_size(byte: u8) -> usize
-    ensures { result ≡ byte }
-{
-    byte as usize
+// The lists that follow the head: two of bytes (kinds, or modes and guards), and the floats, which have
+// one byte or four each. Behind them stand the wide numbers, which only the functions of floats have.
+struct Lists<'a> {
+    bytes: &'a [u8],
+    more_bytes: &'a [u8],
+    floats: &'a [f32],
+    a: f64,
+    b: f64,
 }
 
-// Room for the floats that are handed over. The `ensures` gives the length alone, which lending needs.
-fn float_room() -> [f32; 22468]
-    ensures { 22468 ≡ length result }
-{
-    [0.0; 22468]
-}
-
-// Behind the lists stand the wide numbers, which only the functions of floats have. What was read goes
-// to the part of the operation's number.
-fn check_part(
-    input: Stdin,
-    head: &[u8; 22],
-    bytes: &[u8],
-    more_bytes: &[u8],
-    floats: &[f32],
-) -> Tally {
-    let Longs::Numbers(a, b) = replay::read_longs(input, short_size(head[21])) else {
-        return broken();
+// Reads the rest of a record, whose head was read: makes its call, and compares what comes of it.
+pub fn check_record(answers: &mut Answers, head: &[u8; HEAD]) -> Result<(), Cut> {
+    let mut byte_room = [0u8; 16];
+    let bytes = answers.read_part(&mut byte_room, size_at(head, 14))?;
+    let mut more_byte_room = [0u8; 16];
+    let more_bytes = answers.read_part(&mut more_byte_room, size_at(head, 16))?;
+    let mut float_room = [0.0f32; 22468];
+    let floats = float_room.get_mut(..size_at(head, 18)).ok_or(Cut)?;
+    answers.read_floats(floats, Size::from(head[20]))?;
+    let (a, b) = answers.read_longs(usize::from(head[21]))?;
+    let lists = Lists {
+        bytes,
+        more_bytes,
+        floats,
+        a: f64_from_bits_with_nan(a),
+        b: f64_from_bits_with_nan(b),
     };
-    let operation = head[0];
-    match operation {
-        1..=5 | 19 => replay_layout::check_call(input, head, bytes),
-        6..=11 | 17..=18 => replay_acquisition::check_call(input, head, bytes, more_bytes, floats),
-        12 => replay_grid::check_call(input, head, bytes, floats),
-        13..=16 | 20..=21 => replay_floats::check_call(input, head, floats, a, b),
-        _ => broken(),
-    }
+    check_call(answers, head, lists)
 }
 
-// The lists follow the head: two of bytes (kinds, or modes and guards), and the floats, which have one
-// byte or four each.
-fn check_floats_behind(input: Stdin, head: &[u8; 22], bytes: &[u8], more_bytes: &[u8]) -> Tally {
-    let n = size_at(head, 18);
-    if 22468 < n {
-        return broken();
+// The functions of floats are lent nothing, so what a head says of that has no meaning there.
+fn check_call(answers: &mut Answers, head: &[u8; HEAD], lists: Lists<'_>) -> Result<(), Cut> {
+    let Lists {
+        bytes,
+        more_bytes,
+        floats,
+        a,
+        b,
+    } = lists;
+    let code = head[1];
+    let call = Call::of(head);
+    match Operation::try_from(head[0])? {
+        Operation::CarrierBin => replay_layout::carrier_bin(answers, call?),
+        Operation::RoleMap => replay_layout::role_map(answers, call?, bytes),
+        Operation::SignMap => replay_layout::sign_map(answers, call?),
+        Operation::DataList => replay_layout::data_list(answers, call?, bytes),
+        Operation::ContinualList => replay_layout::continual_list(answers, call?, bytes),
+        Operation::SamplesNeeded => {
+            replay_acquisition::samples_needed(answers, call?, bytes, more_bytes)
+        }
+        Operation::DetectMode => {
+            replay_acquisition::detect_mode(answers, call?, floats, bytes, more_bytes)
+        }
+        Operation::IntegerCfo => replay_acquisition::integer_cfo(answers, call?, floats),
+        Operation::DetectKinds => replay_acquisition::detect_kinds(answers, call?, floats),
+        Operation::TmccSoft => replay_acquisition::tmcc_soft(answers, call?, bytes, floats),
+        Operation::DetectSpPhase => {
+            replay_acquisition::detect_sp_phase(answers, call?, bytes, floats)
+        }
+        Operation::EstimateGrid => replay_grid::estimate_grid(answers, call?, bytes, floats),
+        Operation::Root => replay_floats::root(answers, code, a),
+        Operation::Narrow => replay_floats::narrow(answers, code, a),
+        Operation::Norm32 => replay_floats::norm32(answers, code, floats),
+        Operation::Norm64 => replay_floats::norm64(answers, code, a, b),
+        Operation::FrameStart => replay_acquisition::frame_start(answers, call?, floats),
+        Operation::BinRatio => replay_acquisition::bin_ratio(answers, call?, floats),
+        Operation::CarrierRole => replay_layout::carrier_role(answers, call?, bytes),
+        Operation::Angle => replay_floats::angle(answers, code, a, b),
+        Operation::CfoFrac => replay_floats::cfo_frac(answers, code, a, b),
     }
-    let mut floats = float_room();
-    if !replay::read_floats(input, &mut floats, head[20], n) {
-        return broken();
-    }
-    check_part(input, head, bytes, more_bytes, &floats[0..n])
-}
-
-fn check_bytes_behind(input: Stdin, head: &[u8; 22], bytes: &[u8]) -> Tally {
-    let n = size_at(head, 16);
-    if 16 < n {
-        return broken();
-    }
-    let mut more_bytes = [0u8; 16];
-    if !replay::read_part(input, &mut more_bytes, n) {
-        return broken();
-    }
-    check_floats_behind(input, head, bytes, &more_bytes[0..n])
-}
-
-// Reads the rest of a record, whose head was read: what came of its call. One that ends early, or makes
-// no sense, counts as a difference.
-pub fn check_record(input: Stdin, head: &[u8; 22]) -> Tally {
-    let n = size_at(head, 14);
-    if 16 < n {
-        return broken();
-    }
-    let mut bytes = [0u8; 16];
-    if !replay::read_part(input, &mut bytes, n) {
-        return broken();
-    }
-    check_bytes_behind(input, head, &bytes[0..n])
 }

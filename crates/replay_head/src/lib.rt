@@ -1,10 +1,76 @@
 // The head of a stored record (oracle/README.md, "The stored answers", has the form): the call that it
-// asks for, and room for what that call is lent. The parts of the replayer share this.
+// asks for, and the operation's number. The parts of the replayer share this.
 #![tactic(auto)]
 
-ghost use Rattle.std.specs.Prelude.{◌<◌, ◌≡◌, length};
+ghost use Rattle.std.specs.Prelude.{◌<◌, ◌≤◌};
 
-use tally::Tally;
+use replay::Cut;
+
+// How many bytes a head has.
+pub const HEAD: usize = 22;
+
+// How many entries there is room for in the list that is lent.
+pub const ROOM: usize = 32259;
+
+// The operations, by the names of their C functions. Their numbers are in the order in which they came.
+#[derive(Clone, Copy, Debug, PartialEq, Eq)]
+pub enum Operation {
+    CarrierBin,
+    RoleMap,
+    SignMap,
+    DataList,
+    ContinualList,
+    SamplesNeeded,
+    DetectMode,
+    IntegerCfo,
+    DetectKinds,
+    TmccSoft,
+    DetectSpPhase,
+    EstimateGrid,
+    Root,
+    Narrow,
+    Norm32,
+    Norm64,
+    FrameStart,
+    BinRatio,
+    CarrierRole,
+    Angle,
+    CfoFrac,
+}
+
+// How many operations there are; their numbers are 1 to this.
+pub const OPERATIONS: usize = 21;
+
+impl TryFrom<u8> for Operation {
+    type Error = Cut;
+
+    fn try_from(number: u8) -> Result<Operation, Cut> {
+        match number {
+            1 => Ok(Operation::CarrierBin),
+            2 => Ok(Operation::RoleMap),
+            3 => Ok(Operation::SignMap),
+            4 => Ok(Operation::DataList),
+            5 => Ok(Operation::ContinualList),
+            6 => Ok(Operation::SamplesNeeded),
+            7 => Ok(Operation::DetectMode),
+            8 => Ok(Operation::IntegerCfo),
+            9 => Ok(Operation::DetectKinds),
+            10 => Ok(Operation::TmccSoft),
+            11 => Ok(Operation::DetectSpPhase),
+            12 => Ok(Operation::EstimateGrid),
+            13 => Ok(Operation::Root),
+            14 => Ok(Operation::Narrow),
+            15 => Ok(Operation::Norm32),
+            16 => Ok(Operation::Norm64),
+            17 => Ok(Operation::FrameStart),
+            18 => Ok(Operation::BinRatio),
+            19 => Ok(Operation::CarrierRole),
+            20 => Ok(Operation::Angle),
+            21 => Ok(Operation::CfoFrac),
+            _ => Err(Cut),
+        }
+    }
+}
 
 // What the head of a record says of the call: what it returns, the arguments that are numbers, in the
 // order of the C function, and the entries of the list that is lent to be written. No operation is
@@ -20,60 +86,32 @@ pub struct Call {
     pub third: usize,
     pub fourth: usize,
     pub lent: usize,
+    pub ghost has_room: { lent ≤ 32259 },
 }
 
-// The number of two bytes that begins at an index.
-pub fn size_at(head: &[u8; 22], at: usize) -> usize
-    requires { at < 20 }
-{
-    replay::number_at(head, at) as usize
-}
-
-pub fn call_of(head: &[u8; 22]) -> Call {
-    Call {
-        code: head[1],
-        mode: head[2],
-        choice: head[4],
-        first: size_at(head, 2),
-        second: size_at(head, 4),
-        third: size_at(head, 6),
-        fourth: size_at(head, 8),
-        lent: size_at(head, 10),
+impl Call {
+    // The call that a head asks for, if there is room for what it lends.
+    pub fn of(head: &[u8; HEAD]) -> Result<Call, Cut> {
+        let lent = size_at(head, 10);
+        if ROOM < lent {
+            return Err(Cut);
+        }
+        Ok(Call {
+            code: head[1],
+            mode: head[2],
+            choice: head[4],
+            first: size_at(head, 2),
+            second: size_at(head, 4),
+            third: size_at(head, 6),
+            fourth: size_at(head, 8),
+            lent,
+        })
     }
 }
 
-// Room for the list that is lent, which is 77 everywhere. Each `ensures` gives the length alone, which
-// lending needs.
-pub fn lent_bytes() -> [u8; 32259]
-    ensures { 32259 ≡ length result }
+// The number of two bytes that begins at an index.
+pub fn size_at(head: &[u8; HEAD], at: usize) -> usize
+    requires { at < 20 }
 {
-    [77; 32259]
-}
-
-pub fn lent_words() -> [u32; 32259]
-    ensures { 32259 ≡ length result }
-{
-    [77; 32259]
-}
-
-pub fn lent_floats() -> [f32; 32259]
-    ensures { 32259 ≡ length result }
-{
-    [77.0; 32259]
-}
-
-pub fn lent_doubles() -> [f64; 32259]
-    ensures { 32259 ≡ length result }
-{
-    [77.0; 32259]
-}
-
-// The count of a call that answered a code.
-pub fn answered(code: u8, call: Call) -> Tally {
-    Tally::new().entry(code == call.code)
-}
-
-// The count of a record that ends early, or makes no sense.
-pub fn broken() -> Tally {
-    Tally::new().ended()
+    usize::from(replay::number_at(head, at))
 }

@@ -3,116 +3,115 @@
 // early, or makes no sense, ends the run.
 #![tactic(auto)]
 
-ghost use Rattle.std.specs.Prelude.{◌≤◌, ◌<◌};
-
-use replay::Head;
-use replay_calls::OPERATIONS;
-use std::io;
-use std::io::{Stdin, Stdout, Write};
+use replay::{Answers, Cut};
+use replay_head::{HEAD, OPERATIONS};
+use std::io::Stdin;
+use std::{fmt, io};
 use tally::Tally;
 
-// There are three counts for each operation's number, and for 0, which is all of them together: calls,
-// entries that were compared, and differences. A call is counted when its record was read to the end.
-// There is room for 32 operations.
-fn add(counts: &mut [u64; 99], at: usize, n: u64)
-    requires { at < 99 }
-{
-    counts[at] = tally::sum(counts[at], n);
+// The calls whose record was read to the end, and what was compared.
+#[derive(Clone, Copy)]
+struct Count {
+    calls: u64,
+    tally: Tally,
 }
 
-fn put_counts(counts: &mut [u64; 99], i: usize, tally: Tally)
-    requires { i ≤ 32 }
-{
-    add(counts, 3 * i, tally::unless(tally.cut));
-    add(counts, 3 * i + 1, tally.compared);
-    add(counts, 3 * i + 2, tally.differ);
-}
+impl Count {
+    const NONE: Count = Count {
+        calls: 0,
+        tally: Tally {
+            compared: 0,
+            differ: 0,
+        },
+    };
 
-// A number that no operation has counts for all of them together alone.
-fn count_call(counts: &mut [u64; 99], operation: u8, tally: Tally) {
-    put_counts(counts, 0, tally);
-    if operation == 0 {
-        return;
+    // What came of one record, of which this was read.
+    fn of(answers: Answers, read: Result<(), Cut>) -> Count {
+        Count {
+            calls: u64::from(read.is_ok()),
+            tally: answers.counted(read),
+        }
     }
-    if operation <= OPERATIONS {
-        put_counts(counts, operation as usize, tally);
-    }
-}
 
-// A record: whether it could be read to its end.
-fn replay_record(input: Stdin, head: &[u8; 22], counts: &mut [u64; 99]) -> bool {
-    let tally = replay_calls::check_record(input, head);
-    count_call(counts, head[0], tally);
-    !tally.cut
-}
-
-// Reads the next record: whether to read on.
-fn next_record(input: Stdin, counts: &mut [u64; 99]) -> bool {
-    let mut head = [0u8; 22];
-    match replay::read_head(input, &mut head) {
-        Head::Whole => replay_record(input, &head, counts),
-        Head::Nothing => false,
-        Head::Piece => {
-            put_counts(counts, 0, Tally::new().ended());
-            false
+    fn with(self, other: Count) -> Count {
+        Count {
+            calls: self.calls.saturating_add(other.calls),
+            tally: self.tally.with(other.tally),
         }
     }
 }
 
-// Nothing says that the input ends, so the loop counts its turns down from a number that no run
-// uses up.
-fn run(input: Stdin, counts: &mut [u64; 99]) {
-    let mut turns = u64::MAX;
-    while turns > 0 {
-        if !next_record(input, counts) {
+// As `12 calls, 12 entries compared, 0 differ`.
+impl fmt::Display for Count {
+    fn fmt<W: fmt::Write>(&self, f: &mut fmt::Formatter<W>) -> fmt::Result {
+        let Tally { compared, differ } = self.tally;
+        write!(
+            f,
+            "{} calls, {compared} entries compared, {differ} differ",
+            self.calls
+        )
+    }
+}
+
+// The count of each operation, in the order of their numbers, which begin at 1; and of all together,
+// where a number that no operation has counts too.
+#[derive(Drop)]
+struct Counts {
+    all: Count,
+    each: [Count; OPERATIONS],
+}
+
+impl Counts {
+    fn add(&mut self, operation: u8, count: Count) {
+        self.all = self.all.with(count);
+        if operation == 0 {
             return;
         }
-        turns -= 1;
+        if let Some(it) = self.each.get_mut(usize::from(operation) - 1) {
+            *it = it.with(count);
+        }
     }
 }
 
-fn print_count(out: Stdout, counts: &[u64; 99], at: usize, words: &[u8]) -> io::Result<()>
-    requires { at < 99 }
-{
-    replay::print_count(out, counts[at], words)
+// Reads the next record: whether there was one. Of a piece of a head the operation is not known.
+fn next_record(input: Stdin, counts: &mut Counts) -> Result<bool, Cut> {
+    let mut answers = Answers::new(input);
+    let mut head = [0u8; HEAD];
+    match answers.read_head(&mut head) {
+        Ok(true) => {
+            let read = replay_calls::check_record(&mut answers, &head);
+            counts.add(head[0], Count::of(answers, read));
+            read?;
+            Ok(true)
+        }
+        Ok(false) => Ok(false),
+        Err(cut) => {
+            counts.add(0, Count::of(answers, Err(cut)));
+            Err(cut)
+        }
+    }
 }
 
-// Prints the counts of an operation, as `12 calls, 12 entries compared, 0 differ`.
-fn print_counts(out: Stdout, i: usize, counts: &[u64; 99]) -> io::Result<()>
-    requires { i ≤ 32 }
-{
-    print_count(out, counts, 3 * i, b" calls, ")?;
-    print_count(out, counts, 3 * i + 1, b" entries compared, ")?;
-    print_count(out, counts, 3 * i + 2, b" differ\n")
-}
-
-fn print_number(out: Stdout, i: usize) -> io::Result<()> {
-    replay::print_count(out, i as u64, b": ")
-}
-
-// A line for each of n operations, by its number.
-fn print_lines(out: Stdout, n: usize, counts: &[u64; 99]) -> io::Result<()>
-    requires { n ≤ 32 }
-{
-    let mut i: usize = 0;
-    while i < n {
-        i += 1;
-        print_number(out, i)?;
-        print_counts(out, i, counts)?;
+// Nothing says that the input ends, so the loop has more turns than any run uses up.
+fn run(input: Stdin, counts: &mut Counts) -> Result<(), Cut> {
+    for _ in 0..u64::MAX {
+        if !next_record(input, counts)? {
+            return Ok(());
+        }
     }
     Ok(())
 }
 
-fn print_all(out: Stdout, counts: &[u64; 99]) -> io::Result<()> {
-    let mut line = out;
-    line.write_all(b"records ")?;
-    print_count(out, counts, 0, b"\n")?;
-    print_lines(out, OPERATIONS as usize, counts)?;
-    print_count(out, counts, 2, b" differences\n")
-}
-
 fn main(rt: HostRuntime) -> io::Result<()> {
-    let mut counts = [0u64; 99];
-    run(rt.stdin(), &mut counts);
-    print_all(rt.stdout(), &counts)
+    let mut counts = Counts {
+        all: Count::NONE,
+        each: [Count::NONE; OPERATIONS],
+    };
+    // Where the input is cut, the difference is counted.
+    let _ = run(rt.stdin(), &mut counts);
+    println!(rt; "records {}", counts.all.calls)?;
+    for (i, count) in counts.each.iter().enumerate() {
+        println!(rt; "{}: {count}", i + 1)?;
+    }
+    println!(rt; "{} differences", counts.all.tally.differ)
 }

@@ -3,179 +3,144 @@
 // that ends early counts as a difference and ends the run; so does a row of more than 20 entries.
 #![tactic(auto)]
 
-ghost use Rattle.std.specs.Prelude.{◌*◌, ◌<◌, ◌≤◌, length};
-ghost use Rattle.params.specs.Params.{data_carriers_per_segment};
+ghost use Rattle.std.specs.Prelude.{ℕ, ◌<◌, ◌≤◌};
 
 use params::{Mode, SegmentKind};
-use replay::Stored;
+use replay::{Answers, Cut};
 use std::io;
 use std::io::Stdin;
 use tally::Tally;
 
-// A row of the carrier tables, which are numbered in the order of the input.
-fn row_of(table: u8, mode: Mode, seg: usize) -> &'static [u16]
-    requires { seg < 13 }
+const MODES: [Mode; 3] = [Mode::M1, Mode::M2, Mode::M3];
+
+// Compares numbers with the next ones that are stored.
+fn compare<F: Fn(usize) -> u16>(answers: &mut Answers, n: usize, number: F) -> Result<(), Cut>
+    requires few { n ≤ 384 }
+    requires callable { (i : ℕ) → i < n → F.pre number i }
 {
-    match table {
-        0 => tables::ac1_positions(mode, SegmentKind::Differential, seg),
-        1 => tables::ac2_positions(mode, SegmentKind::Differential, seg),
-        2 => tables::tmcc_positions(mode, SegmentKind::Differential, seg),
-        3 => tables::ac1_positions(mode, SegmentKind::Coherent, seg),
-        _ => tables::tmcc_positions(mode, SegmentKind::Coherent, seg),
-    }
-}
-
-fn wide(number: u16) -> u64 {
-    number as u64
-}
-
-// Compares the first n places of a row, zeros behind its last, with those that are stored.
-fn compare_row(row: &[u16], n: usize, stored: &[u8], tally: Tally) -> Tally
-    requires { 2 * n ≤ length stored.now }
-{
-    let mut t = tally;
-    for i in 0..n {
-        let place = row.get(i).map_or(0, |p| wide(*p));
-        t = t.entry(place == replay::number_at(stored, 2 * i));
-    }
-    t
-}
-
-// The count of a row is stored in front of its places.
-fn check_row(input: Stdin, row: &[u16], tally: Tally) -> Tally {
-    if tally.cut {
-        return tally;
-    }
-    let Stored::Number(count) = replay::read_byte(input) else {
-        return tally.ended();
-    };
-    let n = count as usize;
-    if 20 < n {
-        return tally.ended();
-    }
-    let mut room = [0u8; 40];
-    if !replay::read_part(input, &mut room, 2 * n) {
-        return tally.ended();
-    }
-    compare_row(row, n, &room, tally.expect(n == row.len()))
-}
-
-fn check_rows(input: Stdin, table: u8, mode: Mode, tally: Tally) -> Tally {
-    let mut t = tally;
-    let mut seg: usize = 0;
-    while seg < 13 {
-        t = check_row(input, row_of(table, mode, seg), t);
-        seg += 1;
-    }
-    t
-}
-
-fn check_table(input: Stdin, table: u8, tally: Tally) -> Tally {
-    let one = check_rows(input, table, Mode::M1, tally);
-    let two = check_rows(input, table, Mode::M2, one);
-    check_rows(input, table, Mode::M3, two)
-}
-
-fn check_tables(input: Stdin, tally: Tally) -> Tally {
-    let mut t = tally;
-    let mut table: u8 = 0;
-    while table < 5 {
-        t = check_table(input, table, t);
-        table += 1;
-    }
-    t
-}
-
-fn compare_states(mode: Mode, stored: &[u8], tally: Tally) -> Tally
-    requires { 26 ≤ length stored.now }
-{
-    let mut t = tally;
-    let mut seg: usize = 0;
-    while seg < 13 {
-        let state = tables::prbs_segment_init(mode, seg);
-        t = t.entry(wide(state) == replay::number_at(stored, 2 * seg));
-        seg += 1;
-    }
-    t
-}
-
-fn check_states(input: Stdin, mode: Mode, tally: Tally) -> Tally {
-    if tally.cut {
-        return tally;
-    }
-    let mut room = [0u8; 26];
-    if !replay::read_part(input, &mut room, 26) {
-        return tally.ended();
-    }
-    compare_states(mode, &room, tally)
-}
-
-// Data carriers of a segment.
-fn data_size(mode: Mode) -> usize
-    ensures { (result ≤ data_carriers_per_segment mode) × (result ≤ 384) }
-{
-    mode.data_carriers_per_segment()
-}
-
-fn compare_randomizing(mode: Mode, n: usize, stored: &[u8], tally: Tally) -> Tally
-    requires { (n ≤ data_carriers_per_segment mode) × (2 * n ≤ length stored.now) }
-{
-    let mut t = tally;
-    let mut i: usize = 0;
-    while i < n {
-        let after = tables::carrier_randomize(mode, i);
-        t = t.entry(wide(after) == replay::number_at(stored, 2 * i));
-        i += 1;
-    }
-    t
-}
-
-fn check_randomizing(input: Stdin, mode: Mode, tally: Tally) -> Tally {
-    if tally.cut {
-        return tally;
-    }
-    let n = data_size(mode);
     let mut room = [0u8; 768];
-    if !replay::read_part(input, &mut room, 2 * n) {
-        return tally.ended();
+    answers.read_part(&mut room, 2 * n)?;
+    for i in 0..n {
+        answers
+            .tally
+            .entry(number(i) == replay::number_at(&room, 2 * i));
     }
-    compare_randomizing(mode, n, &room, tally)
+    Ok(())
 }
 
-// Whether the input has nothing more.
-fn at_end(input: Stdin) -> bool {
-    match replay::read_byte(input) {
-        Stored::Number(_) => false,
-        Stored::Cut => true,
+// The count of a row is stored in front of its places. A place that the row lacks is compared as 0.
+fn check_row(answers: &mut Answers, row: &[u16]) -> Result<(), Cut> {
+    let n = usize::from(answers.read_byte()?);
+    if 20 < n {
+        return Err(Cut);
     }
+    compare(answers, n, |i| row.get(i).copied().unwrap_or(0))?;
+    answers.tally.expect(n == row.len());
+    Ok(())
 }
 
-fn check_all_states(input: Stdin, tally: Tally) -> Tally {
-    let one = check_states(input, Mode::M1, tally);
-    let two = check_states(input, Mode::M2, one);
-    check_states(input, Mode::M3, two)
+fn check_table<'a, F: Fn(Mode, usize) -> &'a [u16]>(
+    answers: &mut Answers,
+    row: F,
+) -> Result<(), Cut>
+    requires { (mode : _) (seg : ℕ) → seg < 13 → F.pre row mode seg }
+{
+    for mode in MODES {
+        for seg in 0..13 {
+            check_row(answers, row(mode, seg))?;
+        }
+    }
+    Ok(())
+}
+
+// The carrier tables, in the order of the input.
+fn check_tables(answers: &mut Answers) -> Result<(), Cut> {
+    let differential = SegmentKind::Differential;
+    let coherent = SegmentKind::Coherent;
+    check_table(
+        answers,
+        |mode, seg| tables::ac1_positions(mode, differential, seg),
+    )?;
+    check_table(
+        answers,
+        |mode, seg| tables::ac2_positions(mode, differential, seg),
+    )?;
+    check_table(
+        answers,
+        |mode, seg| tables::tmcc_positions(mode, differential, seg),
+    )?;
+    check_table(
+        answers,
+        |mode, seg| tables::ac1_positions(mode, coherent, seg),
+    )?;
+    check_table(
+        answers,
+        |mode, seg| tables::tmcc_positions(mode, coherent, seg),
+    )
+}
+
+fn check_states(answers: &mut Answers) -> Result<(), Cut> {
+    for mode in MODES {
+        compare(answers, 13, |seg| tables::prbs_segment_init(mode, seg))?;
+    }
+    Ok(())
 }
 
 // Behind the last table the input must end.
-fn check_all_randomizing(input: Stdin, tally: Tally) -> Tally {
-    let one = check_randomizing(input, Mode::M1, tally);
-    let two = check_randomizing(input, Mode::M2, one);
-    let three = check_randomizing(input, Mode::M3, two);
-    if three.cut {
-        return three;
+fn check_randomizing(answers: &mut Answers) -> Result<(), Cut> {
+    for mode in MODES {
+        compare(answers, mode.data_carriers_per_segment(), |i| {
+            tables::carrier_randomize(mode, i)
+        })?;
     }
-    three.expect(at_end(input))
+    let at_end = answers.read_byte().is_err();
+    answers.tally.expect(at_end);
+    Ok(())
+}
+
+// What was counted of each kind of table.
+struct Counts {
+    entries: Tally,
+    states: Tally,
+    randomizing: Tally,
+}
+
+// Checks tables of one kind.
+fn check_kind<F: FnOnce(&mut Answers) -> Result<(), Cut>>(
+    input: Stdin,
+    tally: &mut Tally,
+    check: F,
+) -> Result<(), Cut>
+    requires { F.IsAlwaysCallable check }
+{
+    let mut answers = Answers::new(input);
+    let read = check(&mut answers);
+    *tally = answers.counted(read);
+    read
+}
+
+fn check_all(input: Stdin, counts: &mut Counts) -> Result<(), Cut> {
+    check_kind(input, &mut counts.entries, check_tables)?;
+    check_kind(input, &mut counts.states, check_states)?;
+    check_kind(input, &mut counts.randomizing, check_randomizing)
 }
 
 fn main(rt: HostRuntime) -> io::Result<()> {
-    let input = rt.stdin();
-    let out = rt.stdout();
-    let entries = check_tables(input, Tally::new());
-    let states = check_all_states(input, Tally::new().after(entries));
-    let randomizing = check_all_randomizing(input, Tally::new().after(states));
-    replay::print_tally(out, b"table entries ", entries)?;
-    replay::print_tally(out, b"first states ", states)?;
-    replay::print_tally(out, b"randomizing entries ", randomizing)?;
+    let mut counts = Counts {
+        entries: Tally::new(),
+        states: Tally::new(),
+        randomizing: Tally::new(),
+    };
+    // Where the input is cut, the difference is counted.
+    let _ = check_all(rt.stdin(), &mut counts);
+    let Counts {
+        entries,
+        states,
+        randomizing,
+    } = counts;
+    println!(rt; "table entries {entries}")?;
+    println!(rt; "first states {states}")?;
+    println!(rt; "randomizing entries {randomizing}")?;
     let all = entries.with(states).with(randomizing);
-    replay::print_differences(out, all.differ)
+    println!(rt; "{} differences", all.differ)
 }

@@ -4,7 +4,7 @@
 
 mod seeds;
 
-ghost use Rattle.std.specs.Prelude.{◌≡◌, true, ◌+◌, ◌*◌, ◌^◌, ◌≤◌, ◌<◌};
+ghost use Rattle.std.specs.Prelude.{◌≡◌, true, IfSome, ◌+◌, ◌*◌, ◌^◌, ◌≤◌, ◌<◌};
 ghost use Rattle.std.specs.Float.{binary64};
 ghost use Rattle.std.specs.Float.Ieee.{of_bits};
 ghost use Rattle.ieee.specs.Narrow.{narrow_of};
@@ -81,7 +81,8 @@ fn whole_root(a: u64) -> RootRest
     refine(p5.s, p5.r, 0x400_0000, 0, 0)
 }
 
-// a times the power of 4 that gives it 53 or 54 digits. Only a subnormal goes through the loop.
+// a times the power of 4 that gives it 53 or 54 digits. Only a subnormal goes through the loop, which a
+// test of the digits ends and no count, so it is a while.
 fn lifted(a: u64) -> Lift
     requires { (0 < a) × (a ≤ 18014398509481982) }
     ensures { Lifted a result.a result.i }
@@ -136,10 +137,10 @@ fn positive_root(b: u64) -> u64
 pub fn root(x: f64) -> f64
     ensures { result ≡ root_of x }
 {
-    if x != x {
+    if x.is_nan() {
         return x;
     }
-    let b = f64::to_bits(x);
+    let b = x.to_bits();
     if b < 0x7ff0_0000_0000_0000 {
         if b == 0 {
             return x;
@@ -173,11 +174,11 @@ fn near_root(b: u64) -> u64
     let s2 = s1 * e1;
     let r2 = r1 * e1;
     let c = s2 * (1.8898815748423097 - s2 * r2);
-    if c != c {
+    if c.is_nan() {
         return 0x80_0000;
     }
     // rounded, and without the exponent
-    let q = (f64::to_bits(c) % 0x8000_0000_0000_0000 + 0x1000_0000) / 0x2000_0000;
+    let q = (c.to_bits() % 0x8000_0000_0000_0000 + 0x1000_0000) / 0x2000_0000;
     q % 0x80_0000 + 0x80_0000
 }
 
@@ -195,11 +196,11 @@ fn is_near(a: u64, y: u64) -> bool
     s + 68 <= a + 16 * h
 }
 
-// The bits of the narrowed root of the number whose bits are b, or 0 where the guess was no good.
-// b is such that the root is an f32 of 24 digits.
-fn guessed_bits(b: u64) -> u32
+// The bits of the narrowed root of the number whose bits are b, if the guess was good. b is such that
+// the root is an f32 of 24 digits.
+fn guessed_bits(b: u64) -> Option<u32>
     requires { (3472275312702652416 ≤ b) × (b < 5760103923406864384) }
-    ensures { 0 < result → NarrowRoot b result }
+    ensures { IfSome result (λ r. NarrowRoot b r) }
 {
     let y = near_root(b);
     // the bits above the least such b; its exponent is odd
@@ -208,9 +209,9 @@ fn guessed_bits(b: u64) -> u32
     let k = t / 0x10_0000_0000_0000;
     if is_near(m * (k % 2 + 1), y) {
         let r = k / 2 * 0x80_0000 + y;
-        return r as u32;
+        return Some(r as u32);
     }
-    0
+    None
 }
 
 // The f32 nearest to the f64 nearest to the square root of x. Where it has 24 digits it is guessed and
@@ -218,14 +219,11 @@ fn guessed_bits(b: u64) -> u32
 pub fn narrow_root(x: f64) -> f32
     ensures { result ≡ narrow_of (root_of x) }
 {
-    if x == x {
-        let b = f64::to_bits(x);
-        if 0x3030_0000_0000_0000 <= b {
-            if b < 0x4ff0_0000_0000_0000 {
-                let r = guessed_bits(b);
-                if 0 < r {
-                    return f32::from_bits(r);
-                }
+    if !x.is_nan() {
+        let b = x.to_bits();
+        if 0x3030_0000_0000_0000 <= b && b < 0x4ff0_0000_0000_0000 {
+            if let Some(r) = guessed_bits(b) {
+                return f32::from_bits(r);
             }
         }
     }

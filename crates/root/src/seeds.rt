@@ -1,5 +1,5 @@
 // The whole roots of 64 to 255. A comment says where the next one starts.
-pub const SEEDS: [u8; 192] = [
+pub static SEEDS: [u8; 192] = [
     8, // 64
     8, 8, 8, 8, 8, 8, 8, 8, 8, 8, 8, 8, 8, 8, 8, 8, 9, // 81
     9, 9, 9, 9, 9, 9, 9, 9, 9, 9, 9, 9, 9, 9, 9, 9, 9, 9, 10, // 100

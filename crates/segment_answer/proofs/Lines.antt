@@ -1,25 +1,32 @@
 -- Lines that are stored piece by piece and one behind another.
 -- Assumes nothing.
-use Prim.Native.Nat.{ℕ, ◌+◌, ◌*◌, ◌-◌, ◌<◌}
+use Prim.Native.Nat.{ℕ, ◌+◌, ◌*◌, ◌<◌}
 use mathlib.Core.List.{List, ◌++◌}
-use mathlib.Core.Path.{◌≡◌, ◌∙◌}
+use mathlib.Core.Path.{◌≡◌, refl, sym, ◌∙◌}
 use native.Mathlib.Nat.{add-zero}
 use native.Mathlib.Numerals.{add-one}
 use native.Mathlib.Omega.{arith}
+use Rattle.std.proofs.Common.{Some}
 use lib.ListN.{get_or}
+use Rattle.std.proofs.Math.ListN.{get_or-map}
 use Rattle.lists.specs.Lists.{joined, range}
 use Rattle.lists.specs.Fill.{joined_range}
 use Rattle.params.specs.declared.Mode.{Mode}
 use Rattle.params.specs.declared.SegmentKind.{SegmentKind}
-use Rattle.params.specs.Params.{carriers_per_segment, kind_from}
+use Rattle.params.specs.declared.SegmentKind.TheVariants.{Coherent}
+use Rattle.params.specs.Params.{carriers_per_segment, kind_code, kind_codes}
 use Rattle.params.specs.Laws.{sized}
 use Rattle.ofdm.specs.Band.{segment_at}
 use Rattle.ofdm.specs.Laws.{segment_ends}
 use Rattle.role_counts.specs.declared.KindCounts.{KindCounts}
 use Rattle.role_counts.specs.Counts.{kind_counts, Few, few}
-use Rattle.question.specs.Question.{Answered}
-use Rattle.segment_answer.specs.Pieces.{line_at, line_head, counts_line}
-use Rattle.segment_answer.specs.Laws.{line_parts}
+use Rattle.frame.specs.Answers.{kind_again}
+use Rattle.question.specs.declared.Question.{Question}
+use Rattle.question.specs.Question.{line_code}
+use Rattle.question.specs.Asked.{Asked}
+use Rattle.segment_answer.specs.Pieces.{line_of, line_head, counts_line}
+use Rattle.segment_answer.specs.Answer.{edge_line, list_lines, line_answer}
+use Rattle.segment_answer.specs.Laws.{line_parts, list_answer}
 use Rattle.text.specs.Put.{Put}
 use Rattle.text.specs.Laws.{then, put_as}
 
@@ -33,10 +40,24 @@ carrier_few mode place carrier h e = omega (arith, segment_ends mode place h, (s
 pub counts_few : {k : KindCounts} (mode : Mode) (kind : SegmentKind) → k ≡ kind_counts mode kind → Few k
 counts_few mode kind e = rw e (few mode kind)
 
+-- a kind's code, and back
+code_from : (kinds : List SegmentKind) (k : ℕ) → kind_code (get_or kinds k Coherent) ≡ get_or (kind_codes kinds) k 0
+unfolding kind_codes
+code_from kinds k = sym (get_or-map kind_code kinds k Coherent)
+
 -- the head and the counts make the line of a segment
-pub segment_put : {out mid end : List ℕ} {at a r : ℕ} (mode : Mode) (s : List ℕ) (place seg carrier : ℕ) (kind : SegmentKind)
-    → Answered s → place < 13 → seg ≡ segment_at place → carrier ≡ place * carriers_per_segment mode + 0
-    → kind ≡ kind_from (get_or s (4 + seg) 0 - 67)
-    → Put out at (line_head place seg (get_or s (4 + seg) 0) carrier) a mid → Put mid a (counts_line (kind_counts mode kind)) r end
-    → Put out at (line_at mode s place) r end
-segment_put mode s place seg carrier kind q h es ec ek p t = put_as (line_parts mode s place q h ∙ rw (ek, es, ec, add-zero)) (then p t)
+pub segment_put : {out mid end : List ℕ} {at a r : ℕ} (question : Question) (place seg letter carrier : ℕ) (kind : SegmentKind)
+    → question.phase < 4 → place < 13 → seg ≡ segment_at place → carrier ≡ place * carriers_per_segment question.mode + 0
+    → kind ≡ get_or question.kinds seg Coherent → letter ≡ 67 + kind_code kind
+    → Put out at (line_head place seg letter carrier) a mid → Put mid a (counts_line (kind_counts question.mode kind)) r end
+    → Put out at (line_of question place) r end
+segment_put question place seg letter carrier kind q h es ec ek el p t =
+    let k = segment_at place in
+    put_as (line_parts question.mode question.phase (kind_codes question.kinds) place q h
+    ∙ rw (el, ek, es, ec, add-zero, code_from question.kinds k, kind_again question.kinds k)) (then p t)
+
+-- the lines of a question that a line asks
+pub question_lines : (s : List ℕ) (question : Question) → 0 ≡ line_code s → Asked s question
+    → line_answer s ≡ joined (line_of question) (range 13) ++ edge_line question.mode
+unfolding list_lines
+question_lines s question e a = list_answer s 0 (Some question.mode) e refl a.mode ∙ rw (a.phase, a.kinds)

@@ -1,15 +1,15 @@
 -- The line of a segment in the pieces in which it is stored.
 -- Definitions only.
 use Rattle.std.specs.Prelude.{ℕ, List, [], ◌∷◌, ◌++◌}
-use Rattle.params.specs.declared.Mode.{Mode}
+use Rattle.params.specs.Params.{kind_codes}
 use Rattle.role_counts.specs.declared.KindCounts.{KindCounts}
 use Rattle.text.specs.Decimal.{decimal, field}
-use Rattle.question.specs.Question.{phase_asked, kinds_asked}
+use Rattle.question.specs.declared.Question.{Question}
 use Rattle.segment_answer.specs.Answer.{segment_line}
 
--- the line of the segment at a place
-abbrev pub line_at : Mode → List ℕ → ℕ → List ℕ
-line_at mode s place = segment_line mode (phase_asked s) (kinds_asked s) place
+-- the line of the segment at a place, for a question
+abbrev pub line_of : Question → ℕ → List ℕ
+line_of question place = segment_line question.mode question.phase (kind_codes question.kinds) place
 
 -- a segment's line up to its counts
 abbrev pub line_head : ℕ → ℕ → ℕ → ℕ → List ℕ

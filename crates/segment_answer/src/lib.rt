@@ -6,13 +6,13 @@ ghost use Rattle.std.specs.Prelude.{◌<◌, ◌≤◌, ◌+◌, ◌/◌, length
 ghost use Rattle.lists.specs.Lists.{joined, range};
 ghost use Rattle.role_counts.specs.Counts.{kind_counts};
 ghost use Rattle.text.specs.Put.{Put};
-ghost use Rattle.question.specs.Question.{Answered};
+ghost use Rattle.params.specs.Params.{refusal_number};
 ghost use Rattle.segment_answer.specs.Answer.{edge_line, refused_line, line_answer};
-ghost use Rattle.segment_answer.specs.Pieces.{three, line_head, counts_line, line_at};
+ghost use Rattle.segment_answer.specs.Pieces.{three, line_head, counts_line, line_of};
 
 use ofdm::{BandCarrier, BandPlace, Segment, SegmentPlace};
-use params::{Mode, ModeNumber, SegmentKind};
-use question::line_code;
+use params::{Mode, Refusal, SegmentKind};
+use question::Question;
 use role_counts::kind_counts;
 use text::{put_byte, put_number, put_text};
 
@@ -58,32 +58,29 @@ fn put_head(
     put_number(out, lowest, carrier.0, b',')
 }
 
-// The line of the segment at a place, for a question that is answered.
-fn put_segment(out: &mut [u8], at: usize, mode: Mode, s: &[u8], place: BandPlace) -> usize
-    requires { (at + 37 ≤ length out.old) × (place.0 < 13) × Answered s.now }
-    ensures put { Put out.old at (line_at mode s.now place.0) result out.new }
+// The line of the segment at a place.
+fn put_segment(out: &mut [u8], at: usize, question: Question, place: BandPlace) -> usize
+    requires { (at + 37 ≤ length out.old) × (place.0 < 13) × (question.phase < 4) }
+    ensures put { Put out.old at (line_of question place.0) result out.new }
     ensures upper_bound { result ≤ at + 37 }
 {
     let seg = ofdm::segment_at_position(place);
-    let number = seg.0;
-    let letter = s[4 + number];
-    let kind = SegmentKind::from_code(letter - b'C');
-    let carrier = ofdm::band_carrier(mode, place, SegmentPlace(0));
+    let kind = question.kinds[seg.0];
+    let letter = b'C' + u8::from(kind);
+    let carrier = ofdm::band_carrier(question.mode, place, SegmentPlace(0));
     let counts = put_head(out, at, place, seg, letter, carrier);
-    put_counts(out, counts, mode, kind)
+    put_counts(out, counts, question.mode, kind)
 }
 
 // The thirteen lines of the segments, by place.
-fn put_segments(out: &mut [u8], at: usize, mode: Mode, s: &[u8]) -> usize
-    requires { (at + 481 ≤ length out.old) × Answered s.now }
-    ensures put { Put out.old at (joined (line_at mode s.now) (range 13)) result out.new }
+fn put_segments(out: &mut [u8], at: usize, question: Question) -> usize
+    requires { (at + 481 ≤ length out.old) × (question.phase < 4) }
+    ensures put { Put out.old at (joined (line_of question) (range 13)) result out.new }
     ensures upper_bound { result ≤ at + 481 }
 {
     let mut to = at;
-    let mut place: usize = 0;
-    while place < 13 {
-        to = put_segment(out, to, mode, s, BandPlace(place));
-        place += 1;
+    for place in 0..13 {
+        to = put_segment(out, to, question, BandPlace(place));
     }
     to
 }
@@ -100,28 +97,27 @@ fn put_edge(out: &mut [u8], at: usize, mode: Mode) -> usize
 }
 
 // The line of a refusal.
-pub fn put_refused(out: &mut [u8], at: usize, code: usize) -> usize
-    requires { (at + 512 ≤ length out.old) × (code < 10000) }
-    ensures put { Put out.old at (refused_line code) result out.new }
+#[tactic(auto, using(text::specs::Laws::then), unfolding(crate::specs::Answer::refused_line))]
+pub fn put_refused(out: &mut [u8], at: usize, refusal: Refusal) -> usize
+    requires { at + 512 ≤ length out.old }
+    ensures put { Put out.old at (refused_line (refusal_number refusal)) result out.new }
     ensures upper_bound { result ≤ at + 512 }
 {
     let number = put_text(out, at, b"refused,");
-    put_number(out, number, code, b'\n')
+    put_number(out, number, u8::from(refusal) as usize, b'\n')
 }
 
 // The answer to a line that is given whole.
-pub fn put_answer(out: &mut [u8], at: usize, s: &[u8]) -> usize
+pub fn put_answer(out: &mut [u8], at: usize, line: &[u8]) -> usize
     requires { at + 512 ≤ length out.old }
-    ensures put { Put out.old at (line_answer s.now) result out.new }
+    ensures put { Put out.old at (line_answer line.now) result out.new }
     ensures upper_bound { result ≤ at + 512 }
 {
-    let code = line_code(s);
-    if code != 0 {
-        return put_refused(out, at, code);
+    match Question::parse(line) {
+        Ok(question) => {
+            let edge = put_segments(out, at, question);
+            put_edge(out, edge, question.mode)
+        }
+        Err(refusal) => put_refused(out, at, refusal),
     }
-    let ModeNumber::Known(mode) = Mode::from_number(s[0] - b'0') else {
-        return at;
-    };
-    let edge = put_segments(out, at, mode, s);
-    put_edge(out, edge, mode)
 }

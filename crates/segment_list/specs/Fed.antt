@@ -77,8 +77,9 @@ pub takes_copied : {line line' : Line} {bytes piece piece' out out' : List ℕ} 
 takes_copied p h q = record { prints = λ s g. put_as (sym (put_read (p.prints s g) h)) q; leaves = p.leaves }
 
 -- the whole input and then its last line: what `segments` prints
-pub takes_all : {line line' : Line} {input out mid end : List ℕ} {at a : ℕ} {r : Result ℕ Cut} → Gathers line [] → Takes line input out at line' a mid → a ≤ length out
-    → ((s : List ℕ) → Gathers line' s → PutCut mid a (last_answer s) r end) → PutCut out at (segments_prints input) r end
+pub takes_all : {line line' : Line} {input out mid end : List ℕ} {at a : ℕ} {r : Result ℕ Cut} → Gathers line []
+    → Takes line input out at line' a mid → a ≤ length out → ((s : List ℕ) → Gathers line' s → PutCut mid a (last_answer s) r end)
+    → PutCut out at (segments_prints input) r end
 unfolding segments_prints
 takes_all {line} {line'} {input} g p h q = cut_then (p.prints [] g) h (q (open_after [] input) (p.leaves [] g))
 

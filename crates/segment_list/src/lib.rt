@@ -30,7 +30,7 @@ fn take_byte(line: Line, b: u8, out: &mut [u8], at: usize) -> Taken
         let written = answer_line(line, out, at);
         return Taken {
             line: Line::new(),
-            written: written,
+            written,
         };
     }
     Taken {
@@ -43,13 +43,7 @@ fn take_byte(line: Line, b: u8, out: &mut [u8], at: usize) -> Taken
 fn has_room(len: usize, at: usize) -> bool
     ensures { result ≡ leb (at + 512) len }
 {
-    if len < ANSWER {
-        return false;
-    }
-    if len - ANSWER < at {
-        return false;
-    }
-    true
+    ANSWER <= len.saturating_sub(at)
 }
 
 // What feeding some input gives: the line that is open, the index behind the bytes that were taken,
@@ -67,9 +61,8 @@ pub fn feed(line: Line, input: &[u8], from: usize, out: &mut [u8], at: usize) ->
     ensures { Feeds line input.now from out.old at result out.new }
 {
     let mut held = line;
-    let mut i = from;
     let mut to = at;
-    while i < input.len() {
+    for i in from..input.len() {
         if !has_room(out.len(), to) {
             return Fed {
                 line: held,
@@ -77,14 +70,13 @@ pub fn feed(line: Line, input: &[u8], from: usize, out: &mut [u8], at: usize) ->
                 written: to,
             };
         }
-        let t = take_byte(held, input[i], out, to);
-        held = t.line;
-        to = t.written;
-        i += 1;
+        let taken = take_byte(held, input[i], out, to);
+        held = taken.line;
+        to = taken.written;
     }
     Fed {
         line: held,
-        used: i,
+        used: from.max(input.len()),
         written: to,
     }
 }
@@ -97,6 +89,7 @@ fn answer_pieces(input: &[u8], piece: &mut [u8], out: &mut [u8]) -> Result<usize
     let mut held = Line::new();
     let mut from: usize = 0;
     let mut to: usize = 0;
+    // Each turn takes as many bytes as `feed` says, so no `for` goes over them.
     while from < input.len() {
         let fed = feed(held, input, from, piece, 0);
         to = put_cut(out, to, piece, fed.written)?;

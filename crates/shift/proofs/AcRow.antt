@@ -46,9 +46,6 @@ module _ (mode : Mode) (seg place : ℕ) (row : List ℕ) (in_table : seg < 13) 
   pub inside : (i : ℕ) → i < length row → get_or row i 0 < carriers_per_segment mode
   inside = rw listed (ac1_below mode Coherent seg in_table)
 
-  pub row_short : length row ≤ 8
-  row_short = rw listed (row_few mode seg in_table)
-
   pub bins_are : bins_at mode place row ≡ segment_bins mode seg
   unfolding segment_bins
   bins_are = rw (listed, placed)

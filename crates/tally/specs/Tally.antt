@@ -1,17 +1,16 @@
 -- What a tally counts: entries that were compared, and those of them that are not the same on both sides.
 -- Definitions only.
-use Rattle.std.specs.Prelude.{ℕ, zero, suc, ◌+◌, Bool, cond, ◌≡◌, leb}
+use Rattle.std.specs.Prelude.{ℕ, zero, suc, ◌+◌, Bool, cond, ◌≡◌, min}
 use Rattle.tally.specs.declared.Tally.{Tally}
 
 -- a count stays at the largest number that it holds
 abbrev pub capped : ℕ → ℕ
-capped n = cond (leb n 18446744073709551615) n 18446744073709551615
+capped n = min n 18446744073709551615
 
 -- r is t with so many entries and differences more
-pub record Counted (t : Tally) (entries differences : ℕ) (ended : Bool) (r : Tally) : Type 0 where
+pub record Counted (t : Tally) (entries differences : ℕ) (r : Tally) : Type 0 where
   pub compared : r.compared ≡ capped (t.compared + entries)
   pub differ : r.differ ≡ capped (t.differ + differences)
-  pub cut : r.cut ≡ ended
 
 -- how many of n entries are not the same
 unfoldable pub unlike : (ℕ → Bool) → ℕ → ℕ

@@ -78,7 +78,8 @@ cut_whole {out} {out'} {text} {at} {r} p =
     (record { stored = p.stored ∙ ap (sets out at) (take_all (length out - at) text (omega arith)); next = w.0 }, omega arith)
 
 -- text behind a piece that has room
-pub cut_then : {out mid end s t : List ℕ} {at a : ℕ} {r : Result ℕ Cut} → Put out at s a mid → a ≤ length out → PutCut mid a t r end → PutCut out at (s ++ t) r end
+pub cut_then : {out mid end s t : List ℕ} {at a : ℕ} {r : Result ℕ Cut} → Put out at s a mid → a ≤ length out → PutCut mid a t r end
+    → PutCut out at (s ++ t) r end
 cut_then {out} {mid} {end} {s} {t} {at} {a} {r} p h q =
     let same : length mid ≡ length out = put_length p in
     let ends : a + length t ≡ at + length (s ++ t) = rw length-append (omega (arith, p.next)) in

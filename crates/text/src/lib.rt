@@ -1,5 +1,6 @@
 // Text stored in a buffer that the caller lends: each function takes the index to start at and gives
 // the index behind what it stored.
+// The index stays beside the buffer: nothing is allocated, and a line's room is counted from it.
 #![tactic(auto)]
 
 ghost use Rattle.std.specs.Prelude.{[], ◌∷◌, ◌++◌, ◌<◌, ◌≤◌, ◌+◌, ◌/◌, length, take};

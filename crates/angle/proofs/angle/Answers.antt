@@ -26,9 +26,6 @@ returns-then-c-le32768 c =
     let r = c.circle_of-c.result in
     to_z_pos w32 r (omega arith) ∙ sym (signed_near r (omega arith)) ∙ ap signed c.circle_of-c.ensures.0
 
-pub overflow_sub-result : goal.overflow_sub-result
-overflow_sub-result c = less_fits c.circle_of-c.result (omega arith) (omega arith)
-
 pub returns : goal.returns
 unfolding angle_of
 returns c =

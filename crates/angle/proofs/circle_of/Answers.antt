@@ -6,28 +6,21 @@ use native.Mathlib.Omega.{arith}
 use lib.Dec.{T}
 use lib.Ieee.{binary64, fits}
 use lib.Ieee.Bits.{of_bits-to_bits}
-use lib.Ieee.Compare.{differs_from_itself}
-use Rattle.ieee.specs.Order.{no_nan}
+use Rattle.ieee.specs.Nans.{is_the_nan}
 use Rattle.angle.specs.Angle.{circle_of, finite}
 use Rattle.angle.specs.Facts.{circle_most}
 use Rattle.angle.proofs.Sizes.{re_out, im_out}
 use Rattle.angle.proofs.circle_of.Goals as goal
 
-pub returns-then-re : goal.returns-then-re
-returns-then-re c =
+pub returns-then-is_nan : goal.returns-then-is_nan
+returns-then-is_nan c =
     let s = c.args in
-    (re_out s.re s.im (ap finite (differs_from_itself s.re (subst T (sym c.if-re.true) tt))), omega arith)
+    (re_out s.re s.im (ap finite (is_the_nan s.re (sym c.is_nan.ensures.value ∙ c.if-is_nan.true))), omega arith)
 
-pub returns-then-im : goal.returns-then-im
-returns-then-im c =
+pub returns-then-is_nan-2 : goal.returns-then-is_nan-2
+returns-then-is_nan-2 c =
     let s = c.args in
-    (im_out s.re s.im (ap finite (differs_from_itself s.im (subst T (sym c.if-im.true) tt))), omega arith)
-
-pub float_to_bits-re : goal.float_to_bits-re
-float_to_bits-re c = no_nan c.args.re c.if-re.false
-
-pub float_to_bits-im : goal.float_to_bits-im
-float_to_bits-im c = no_nan c.args.im c.if-im.false
+    (im_out s.re s.im (ap finite (is_the_nan s.im (sym c.is_nan-2.ensures.value ∙ c.if-is_nan-2.true))), omega arith)
 
 pub returns : goal.returns
 returns c =

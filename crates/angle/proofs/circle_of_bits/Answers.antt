@@ -7,7 +7,7 @@ use lib.Dec.{leb}
 use lib.Ieee.{binary64, of_bits}
 use Rattle.angle.specs.Angle.{mirror, around}
 use Rattle.angle.specs.Inner.{size_of}
-use Rattle.angle.specs.Circle.{around_some, half_most}
+use Rattle.angle.specs.Circle.{around_some}
 use Rattle.angle.proofs.Sizes.{not_number, re_out, im_out, bits_circle, zero_around, size_some}
 use Rattle.angle.proofs.circle_of_bits.Goals as goal
 
@@ -30,13 +30,6 @@ returns-then-a-b-eq0 c =
     let f : s.y % 9223372036854775808 ≡ 0 = omega arith in
     sym (bits_circle s.x s.y (omega arith) (omega arith) (omega arith) (omega arith)
     ∙ (λ i. around l (size_of (e i)) r (size_of (f i))) ∙ zero_around l r)
-
-pub mirror_of-requires-2 : goal.mirror_of-requires-2
-mirror_of-requires-2 c =
-    let l = leb 9223372036854775808 c.args.x in
-    let m = half_most l c.quarter_of.result (omega arith) in
-    let e = c.mirror_of.ensures in
-    omega arith
 
 pub returns : goal.returns
 returns c =

@@ -23,4 +23,4 @@ pub returns : goal.returns
 unfolding arctangents
 returns c =
     let i = c.args.i in
-    (c.wide.ensures ∙ read i (omega arith), c.wide-2.ensures ∙ read (i + 1) (omega arith))
+    (c.from.ensures ∙ read i (omega arith), c.from-2.ensures ∙ read (i + 1) (omega arith))

@@ -33,7 +33,9 @@ pub returns-then-is_nan : goal.returns-then-is_nan
 returns-then-is_nan c = of_nan c.args.x (is_the_nan c.args.x (sym c.is_nan.ensures.value ∙ c.if-is_nan.true))
 
 pub narrow_bits-requires : goal.narrow_bits-requires
-narrow_bits-requires c = let w = within c.args.x (held c.args.x c.well_formed.0.1) (is_number _ (sym c.is_nan.ensures.value ∙ c.if-is_nan.false)) in omega arith
+narrow_bits-requires c =
+    let w = within c.args.x (held c.args.x c.well_formed.0.1) (is_number _ (sym c.is_nan.ensures.value ∙ c.if-is_nan.false)) in
+    omega arith
 
 pub float_from_bits-result : goal.float_from_bits-result
 float_from_bits-result c = no_nan_bits binary32 c.narrow_bits.result (omega (arith, c.narrow_bits.ensures.low))
@@ -47,7 +49,9 @@ returns-then-b-lt9223372036854775808 c =
     ∙ ap narrow_of (of_bits-to_bits binary64 x (held x c.well_formed.0.1))
 
 pub narrow_bits-requires-2 : goal.narrow_bits-requires-2
-narrow_bits-requires-2 c = let w = within c.args.x (held c.args.x c.well_formed.0.1) (is_number _ (sym c.is_nan.ensures.value ∙ c.if-is_nan.false)) in omega arith
+narrow_bits-requires-2 c =
+    let w = within c.args.x (held c.args.x c.well_formed.0.1) (is_number _ (sym c.is_nan.ensures.value ∙ c.if-is_nan.false)) in
+    omega arith
 
 pub float_from_bits-result-2 : goal.float_from_bits-result-2
 float_from_bits-result-2 c = no_nan_bits binary32 (2147483648 + c.narrow_bits-2.result) (omega (arith, c.narrow_bits-2.ensures.low))

@@ -1,26 +1,14 @@
 -- `root::is_near` meets its contract: its two tests are the contract's, the lower one written with 8 * y + 4, and 27 digits squared fit a word.
 -- Assumes nothing.
 use mathlib.Core.Path.{◌≡◌, sym, subst}
-use Prim.Native.Nat.{ℕ, ◌+◌, ◌-◌, ◌*◌, ◌≤◌, ◌<◌}
-use native.Mathlib.Nat.{mul-add, add-mul, mul-le-mul}
+use Prim.Native.Nat.{ℕ, ◌+◌, ◌-◌, ◌*◌, ◌≤◌}
+use native.Mathlib.Nat.{mul-add, add-mul}
 use native.Mathlib.Omega.{arith}
 use lib.Dec.{T, leb→le}
 use Rattle.root.proofs.is_near.Goals as goal
 
-square : (y : ℕ) → y < 16777216 → (8 * y + 4) * (8 * y + 4) ≤ 134217724 * 134217724
-square y h = let l : 8 * y + 4 ≤ 134217724 = omega arith in mul-le-mul l l
-
 lower : (a h u : ℕ) → h ≡ u + 8 → h * h + 68 ≤ a + 16 * h → u * u + 4 ≤ a
 lower a h u e k = let q : h * h ≡ u * u + 16 * u + 64 = rw e (rw (add-mul, mul-add) (omega arith)) in omega arith
-
-pub overflow_mul-s : goal.overflow_mul-s
-overflow_mul-s c = record { fits = omega (arith, square c.args.y c.requires.2) }
-
-pub returns-then-s-a : goal.returns-then-s-a
-returns-then-s-a c = λ e. absurd (subst T (sym e) tt)
-
-pub overflow_add-result : goal.overflow_add-result
-overflow_add-result c = record { fits = omega (arith, square c.args.y c.requires.2) }
 
 pub returns : goal.returns
 returns c =

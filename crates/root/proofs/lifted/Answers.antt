@@ -2,7 +2,7 @@
 -- Assumes nothing.
 use mathlib.Core.Path.{◌≡◌, sym, ap, ◌∙◌}
 use Prim.Native.Nat.{ℕ, ◌+◌, ◌*◌, ◌^◌, ◌≤◌, ◌<◌}
-use native.Mathlib.Nat.{le_trans, le_of_eq, mul-one, lt_of_not-le, not-le_of_lt, lt_of_le_of_lt}
+use native.Mathlib.Nat.{le_trans, le_of_eq, lt_of_not-le, not-le_of_lt, lt_of_le_of_lt}
 use native.Mathlib.Omega.{arith}
 use lib.Pow.{pow_mono}
 use Rattle.ieee.specs.Numbers.{le_multiple, shift}
@@ -23,23 +23,8 @@ quadruple a x i e = ap (λ (z : ℕ). z * 4) e ∙ shift a (i + i) 2 ∙ ap (λ 
     two_more : (i : ℕ) → i + i + 2 ≡ i + 1 + (i + 1)
     two_more i = omega arith
 
-pub loop-x-init : goal.loop-x-init
-loop-x-init c = (sym (mul-one c.args.a), omega arith, omega arith, omega arith, omega arith)
-
-pub overflow_mul-x : goal.overflow_mul-x
-overflow_mul-x c = record { fits = omega arith }
-
-pub overflow_add-i : goal.overflow_add-i
-overflow_add-i c = record { fits = omega arith }
-
-pub loop-x-smaller : goal.loop-x-smaller
-loop-x-smaller c = omega arith
-
 pub loop-x-preserved : goal.loop-x-preserved
 loop-x-preserved c =
     let v = c.loop-x.invariant in
     let f = few c.args.a c.loop-x.x c.loop-x.i v.0 v.1 c.loop-x-test.true in
     (quadruple _ _ _ v.0, v.1, omega arith, omega arith, omega arith)
-
-pub returns : goal.returns
-returns c = let v = c.loop-x.invariant in record { whole = v.0; few = v.4; low = omega arith; high = v.3 }

@@ -2,7 +2,6 @@
 -- Assumes nothing.
 use lib.Ieee.{binary64}
 use native.Mathlib.Omega.{arith}
-use Rattle.ieee.specs.Order.{no_nan}
 use Rattle.ieee.specs.Patterns.{no_nan_bits}
 use Rattle.root.proofs.near_root.Goals as goal
 
@@ -11,6 +10,3 @@ float_from_bits-x c = no_nan_bits binary64 _ (omega arith)
 
 pub float_from_bits-r0 : goal.float_from_bits-r0
 float_from_bits-r0 c = no_nan_bits binary64 _ (omega arith)
-
-pub float_to_bits-q : goal.float_to_bits-q
-float_to_bits-q c = no_nan _ c.if-c.false

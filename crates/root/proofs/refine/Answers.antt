@@ -12,12 +12,6 @@ overflow_mul-t c = let f = bounds _ _ _ _ _ c.requires in record { fits = omega 
 pub overflow_add-t : goal.overflow_add-t
 overflow_add-t c = let f = bounds _ _ _ _ _ c.requires in record { fits = omega arith }
 
-pub overflow_mul-d : goal.overflow_mul-d
-overflow_mul-d c = let f = bounds _ _ _ _ _ c.requires in record { fits = omega arith }
-
-pub overflow_add-e : goal.overflow_add-e
-overflow_add-e c = let f = bounds _ _ _ _ _ c.requires in record { fits = omega arith }
-
 pub overflow_mul-x : goal.overflow_mul-x
 overflow_mul-x c = let f = bounds _ _ _ _ _ c.requires in record { fits = omega arith }
 
@@ -32,14 +26,8 @@ returns-then-y-x c =
     let a = c.args in
     refined _ _ _ _ _ c.requires _ _ (div-add-mod' (a.r * a.b + a.hi) (2 * a.s)) (bounds _ _ _ _ _ c.requires) c.if-y-x.true
 
-pub overflow_sub-result-2 : goal.overflow_sub-result-2
-overflow_sub-result-2 c = let f = bounds _ _ _ _ _ c.requires in omega arith
-
 pub overflow_mul-result : goal.overflow_mul-result
 overflow_mul-result c = let f = bounds _ _ _ _ _ c.requires in record { fits = omega arith }
-
-pub overflow_sub-result-3 : goal.overflow_sub-result-3
-overflow_sub-result-3 c = let f = bounds _ _ _ _ _ c.requires in omega arith
 
 pub overflow_add-result : goal.overflow_add-result
 overflow_add-result c = let f = bounds _ _ _ _ _ c.requires in record { fits = omega arith }

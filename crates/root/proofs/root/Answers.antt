@@ -7,10 +7,9 @@ use lib.Dec.{T}
 use mathlib.Core.Bool.{true}
 use lib.Ieee.{Float, binary64, fits, to_bits}
 use lib.Ieee.Bits.{of_bits-to_bits, to_bits-lt}
-use lib.Ieee.Compare.{differs_from_itself}
 use native.Mathlib.Omega.{arith}
 use Rattle.root.specs.Root.{root_of}
-use Rattle.ieee.specs.Order.{no_nan}
+use Rattle.ieee.specs.Nans.{is_the_nan, is_number}
 use Rattle.ieee.specs.Patterns.{no_nan_bits, bits_in}
 use Rattle.root.proofs.Cases.{root_negative, root_same, same_zero, same_minus, same_inf, root_nan, zero_by_zero}
 use Rattle.root.proofs.root.Goals as goal
@@ -19,11 +18,8 @@ use Rattle.root.proofs.root.Goals as goal
 held : (x : Float) → fits binary64 x ≡ true → T (fits binary64 x)
 held x e = subst T (sym e) tt
 
-pub returns-then-x : goal.returns-then-x
-returns-then-x c = root_nan c.args.x (differs_from_itself c.args.x (subst T (sym c.if-x.true) tt))
-
-pub float_to_bits-b : goal.float_to_bits-b
-float_to_bits-b c = no_nan c.args.x c.if-x.false
+pub returns-then-is_nan : goal.returns-then-is_nan
+returns-then-is_nan c = root_nan c.args.x (is_the_nan c.args.x (sym c.is_nan.ensures.value ∙ c.if-is_nan.true))
 
 pub returns-then-b-eq0 : goal.returns-then-b-eq0
 returns-then-b-eq0 c = root_same c.args.x 0 (held c.args.x c.well_formed.0.1) c.if-b-eq0.true same_zero
@@ -45,7 +41,7 @@ pub returns : goal.returns
 returns c =
     let x = c.args.x in
     let b = to_bits binary64 x in
-    let m = bits_in binary64 x (held c.args.x c.well_formed.0.1) (no_nan x c.if-x.false) in
+    let m = bits_in binary64 x (held c.args.x c.well_formed.0.1) (is_number x (sym c.is_nan.ensures.value ∙ c.if-is_nan.false)) in
     let l = to_bits-lt binary64 x (held c.args.x c.well_formed.0.1) in
     zero_by_zero ∙ sym (root_negative b (above b c.if-b-lt9218868437227405312.false c.if-b-eq9218868437227405312.false c.if-b.false m) l m)
     ∙ ap root_of (of_bits-to_bits binary64 x (held c.args.x c.well_formed.0.1))

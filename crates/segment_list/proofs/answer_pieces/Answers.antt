@@ -19,44 +19,32 @@ err_cut (Ok n) h = absurd (search rules)
 err_cut (Err e) h = refl
 
 pub loop-from-init : goal.loop-from-init
-loop-from-init c = (refl, refl, omega arith, omega arith, takes_none _ _ _)
-
-pub put_cut-requires : goal.put_cut-requires
-put_cut-requires c = (omega arith, omega (arith, c.feed-fed.ensures.room (omega arith)))
+loop-from-init c = (omega arith, omega arith, takes_none _ _ _)
 
 pub returns-in_err-to : goal.returns-in_err-to
 returns-in_err-to c =
     let fed = c.feed-fed.ensures in
     let on = fed.progress (omega arith) c.loop-from-test.true in
     let new : Gathers c.new-held.result [] = rw c.new-held.ensures gathers_new in
-    let cut_off = takes_cut c.args.input.now c.loop-from.from c.feed-fed.result.used (omega arith) new c.loop-from.invariant.4 (omega arith) fed.takes
+    let cut_off = takes_cut c.args.input.now c.loop-from.from c.feed-fed.result.used (omega arith) new c.loop-from.invariant.2 (omega arith) fed.takes
     (fed.room (omega arith)) (rw c.in_err-to.was at c.put_cut.ensures) in
     rw (err_cut c.from_residual.result c.from_residual.ensures.0) cut_off
-
-pub loop-from-smaller : goal.loop-from-smaller
-loop-from-smaller c =
-    omega (arith, c.feed-fed.ensures.progress (omega arith) c.loop-from-test.true, c.feed-fed.ensures.within (omega arith))
 
 pub loop-from-preserved : goal.loop-from-preserved
 loop-from-preserved c =
     let fed = c.feed-fed.ensures in
     let on = fed.progress (omega arith) c.loop-from-test.true in
     let whole = cut_whole (rw c.in_ok-to.was at c.put_cut.ensures) in (
-      omega arith,
-      omega arith,
       fed.within (omega arith),
       omega (arith, whole.1),
-      takes_slice c.args.input.now c.loop-from.from c.feed-fed.result.used (omega arith) c.loop-from.invariant.4
+      takes_slice c.args.input.now c.loop-from.from c.feed-fed.result.used (omega arith) c.loop-from.invariant.2
           (takes_copied fed.takes (fed.room (omega arith)) whole.0),
     )
-
-pub put_cut-requires-2 : goal.put_cut-requires-2
-put_cut-requires-2 c = (omega arith, omega (arith, c.finish-n.ensures.upper_bound))
 
 pub returns : goal.returns
 returns c =
     let held = c.loop-from.held in
     let new : Gathers c.new-held.result [] = rw c.new-held.ensures gathers_new in
     let read = put_read c.finish-n.ensures.put (omega (arith, c.finish-n.ensures.upper_bound)) in
-    let all = takes_whole c.args.input.now c.loop-from.from c.loop-from-test.false c.loop-from.invariant.4 in
+    let all = takes_whole c.args.input.now c.loop-from.from c.loop-from-test.false c.loop-from.invariant.2 in
     takes_all new all (omega arith) (λ s g. cut_as (last_held held s g ∙ sym read) c.put_cut-2.ensures)

@@ -1,9 +1,0 @@
--- `replay_operations::run` is safe and ends: the turns that are left fall.
--- Assumes nothing.
-use Rattle.replay_operations.proofs.run.Given as goal
-
-abbrev pub invariant-loop-turns : goal.invariant-loop-turns
-invariant-loop-turns l = Unit {0}
-
-abbrev pub decreases-loop-turns : goal.decreases-loop-turns
-decreases-loop-turns l = l.turns
