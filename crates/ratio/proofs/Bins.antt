@@ -1,17 +1,16 @@
 -- What is used of spectra and of one bin's pairs that are accepted, and a bin's ratio from its sums.
 -- Assumes nothing.
-use Prim.Native.Nat.{ℕ, zero, suc, ◌+◌, ◌-◌, ◌*◌, ◌/◌, ◌≤◌, ◌<◌}
+use Prim.Native.Nat.{ℕ, ◌+◌, ◌-◌, ◌*◌, ◌≤◌, ◌<◌}
 use mathlib.Core.List.{List}
 use mathlib.Core.Path.{◌≡◌, sym, ap, ◌∙◌, subst}
 use borrow.Author.Tests.{ne_eqb}
 use native.Mathlib.Omega.{arith}
-use native.Mathlib.Nat.{lt_irrefl, zero-lt-suc, div-zero, le_trans, le-add_left, mul-suc, mul_assoc, mul-div-le, le-div_iff_mul-le}
 use lib.Ieee.{Float}
 use lib.ListN.{length, take, drop}
 use Rattle.complex.specs.Complex.{Pair, of32, norm32}
 use Rattle.spectra.specs.Codes as spectra
 use Rattle.spectra.specs.Flat.{length_part, bin_part}
-use Rattle.spectra.specs.Spectra.{column, spectra_in, bin_pairs}
+use Rattle.spectra.specs.Spectra.{column, bin_pairs}
 use Rattle.ratio.specs.declared.BinRatio.{BinRatio}
 use Rattle.ratio.specs.declared.BinRatio.TheVariants.{Ratio, Refused}
 use Rattle.ratio.specs.declared.BinSums.{BinSums}
@@ -19,34 +18,10 @@ use Rattle.ratio.specs.Ratio.{correlation, guarded, ratio_of, bin_ratio_code, bi
 use Rattle.ratio.specs.EachBin.{pairs_accepted, accepted_ratio}
 use Rattle.ratio.specs.Inner.{Summed}
 
--- where there is a spectrum, there are bins
-pub some_bins : (len n : ℕ) → 0 < spectra_in len n → 0 < len
-some_bins zero n h = absurd (lt_irrefl 0 (subst (λ (k : ℕ). 0 < k) (div-zero n) h))
-some_bins (suc len) n h = zero-lt-suc len
-
--- the spectra fit into the floats
-pub held : (len n : ℕ) → 2 * (len * spectra_in len n) ≤ n
-held len n = rw (sym (mul_assoc 2 len (spectra_in len n))) (mul-div-le n (2 * len))
-
--- bins that are copied at a time: some, and their slots have room
-pub some_slots : (slot : ℕ) → 0 < slot → slot ≤ 8256 → 0 < 8256 / slot
-some_slots slot some few = (le-div_iff_mul-le some).1 (omega arith)
-
-pub slots_room : (slot width : ℕ) → 0 < slot → width ≤ 8256 / slot → 2 * (width * slot) ≤ 16512
-slots_room slot width some few = let h = (le-div_iff_mul-le some).0 few in omega arith
-
 -- what `BinSums::ratio` makes of a bin's sums
 pub ratio_of_lem : (xs : List Pair) (s : BinSums) (r : Float) → r ≡ guarded (norm32 (of32 s.num)) s.den → Summed xs s → r ≡ ratio_of xs
 unfolding ratio_of
 ratio_of_lem xs s r e h = e ∙ (ap (λ (z : Pair). guarded (norm32 z) s.den) h.num ∙ ap (guarded (norm32 (correlation xs))) h.den)
-
--- a spectrum's floats are among the n
-pub one_spectrum : (len n : ℕ) → 0 < spectra_in len n → 2 * len ≤ n
-one_spectrum len n h = le_trans (le_mul (2 * len) (spectra_in len n) h) (mul-div-le n (2 * len))
-  where
-    le_mul : (a q : ℕ) → 0 < q → a ≤ a * q
-    le_mul a zero h = absurd (lt_irrefl 0 h)
-    le_mul a (suc q) h = rw mul-suc (le-add_left a (a * q))
 
 -- ---- one bin's pairs
 -- where they are accepted, there is a pair

@@ -1,18 +1,20 @@
 -- Bins copied into slots: two pairs more of a slot, two symbols or one more of every slot; and a slot has the pairs of the bin that was copied.
 -- Assumes nothing.
-use Prim.Native.Nat.{ℕ, ◌+◌, ◌*◌, ◌/◌, ◌%◌, ◌≤◌, ◌<◌}
+use Prim.Native.Nat.{ℕ, ◌+◌, ◌-◌, ◌*◌, ◌/◌, ◌%◌, ◌≤◌, ◌<◌}
 use mathlib.Core.List.{List, ◌++◌}
-use mathlib.Core.Path.{◌≡◌, refl, sym, ap, ◌∙◌}
+use mathlib.Core.Path.{◌≡◌, sym, ap, ◌∙◌}
 use native.Mathlib.Decide.{dec_lt}
 use native.Mathlib.Omega.{arith}
 use lib.Arith.{digits_div, digits_mod}
-use lib.Ieee.{Float}
-use lib.ListN.{length, drop}
+use lib.Ieee.{Float, nan}
+use lib.ListN.{length, drop, get_or}
 use lib.Seq.{sets}
+use Rattle.std.specs.Prelude.{min}
+use Rattle.std.proofs.lemmas.List.{get_or-drop}
 use Rattle.lists.specs.Lists.{up_to}
 use Rattle.lists.specs.Fill.{fill_part}
 use Rattle.lists.specs.Select.{up_to_same}
-use Rattle.complex.specs.Complex.{Pair}
+use Rattle.complex.specs.Complex.{Pair, pair}
 use Rattle.spectra.specs.Spectra.{pair_at, with_pair, column}
 use Rattle.spectra.specs.Flat.{length_with, pair_with_same, pair_with_other, column_is}
 use Rattle.ratio.specs.declared.BinBlock.{BinBlock}
@@ -31,10 +33,6 @@ slots_apart slot i k t u l m e = (
 -- a flat list with x and y for its pairs k and k + 1
 abbrev with_two : List Float → ℕ → Pair → Pair → List Float
 with_two xs k x y = with_pair (with_pair xs k x) (k + 1) y
-
--- no slot yet
-pub spread_begin : (xs : List Float) (at next slot t : ℕ) (old : List Float) → Spread xs at next 0 slot t old old
-spread_begin xs at next slot t old = record { one = λ i l. absurd (omega arith); two = λ i l. absurd (omega arith); before = λ i u l. refl }
 
 -- the pairs t and t + 1 of slot n, stored behind those of the n slots before it
 pub spread_again : (xs : List Float) (at next n slot t : ℕ) (old ys zs new : List Float) (to : ℕ) (x y : Pair)
@@ -68,36 +66,53 @@ spread_again xs at next n slot t old ys zs new to x y inside here room first sec
         let after : n * slot + (t + 1) ≡ to + 1 = omega arith in
         rw (z, after) (pair_with_same (with_pair ys to x) (to + 1) y (rw (length_with ys to x) room) ∙ ey)
 
--- ---- symbol by symbol
--- no symbol yet
-pub gather_begin : (xs : List Float) (len : ℕ) (bins : BinBlock) (block : List Float) → Gathered xs len bins 0 block
-gather_begin xs len bins block = record { pairs = λ i t m l. absurd (omega arith) }
+-- pair i from pair k on
+pub pair_from : (xs : List Float) (k i : ℕ) → pair_at (drop (2 * k) xs) i ≡ pair_at xs (k + i)
+pair_from xs k i =
+    let place : 2 * k + 2 * i ≡ 2 * (k + i) = omega arith in
+    let re = get_or-drop (2 * k) xs (2 * i) nan ∙ ap (λ n. get_or xs n nan) place in
+    let im = get_or-drop (2 * k) xs (2 * i + 1) nan ∙ ap (λ n. get_or xs n nan) (omega (arith, place)) in
+    λ z. pair (re z) (im z)
 
+-- ---- symbol by symbol
 -- one symbol more, whatever stands behind it in the slots
-pub gather_one : (xs : List Float) (len : ℕ) (bins : BinBlock) (n at next : ℕ) (old new : List Float)
-    → at ≡ n * len + bins.first → Gathered xs len bins n old → Spread xs at next bins.width bins.slot n old new
-    → Gathered xs len bins (n + 1) new
-gather_one xs len bins n at next old new e h c = record { pairs = λ i t m l. by i t m (dec_lt t n) l }
+pub gather_one : (xs : List Float) (len : ℕ) (bins : BinBlock) (n next : ℕ) (old new : List Float)
+    → Gathered xs len bins n old → Spread xs (bins.first + n * len) next bins.width bins.slot n old new → Gathered xs len bins (n + 1) new
+gather_one xs len bins n next old new h c = record { pairs = λ i t m l. by i t m (dec_lt t n) l }
   where
     by : (i t : ℕ) → i < bins.width → Dec (t < n) → t < n + 1 → pair_at new (i * bins.slot + t) ≡ pair_at xs (t * len + (bins.first + i))
     by i t m (yes l) g = c.before i t l ∙ h.pairs i t m l
     by i t m (no l) g =
         let z : t ≡ n = omega arith in
-        let from : at + i ≡ n * len + (bins.first + i) = omega arith in
+        let from : bins.first + n * len + i ≡ n * len + (bins.first + i) = omega arith in
         rw (z, ← from) (c.one i m)
 
 -- two symbols more
-pub gather_two : (xs : List Float) (len : ℕ) (bins : BinBlock) (n at : ℕ) (old new : List Float)
-    → at ≡ n * len + bins.first → Gathered xs len bins n old → Spread xs at (at + len) bins.width bins.slot n old new
-    → Gathered xs len bins (n + 2) new
-gather_two xs len bins n at old new e h c = record { pairs = λ i t m l. by i t m (dec_lt t (n + 1)) l }
+pub gather_two : (xs : List Float) (len : ℕ) (bins : BinBlock) (n : ℕ) (old new : List Float) → Gathered xs len bins n old
+    → Spread xs (bins.first + n * len) (bins.first + (n + 1) * len) bins.width bins.slot n old new → Gathered xs len bins (n + 2) new
+gather_two xs len bins n old new h c = record { pairs = λ i t m l. by i t m (dec_lt t (n + 1)) l }
   where
     by : (i t : ℕ) → i < bins.width → Dec (t < n + 1) → t < n + 2 → pair_at new (i * bins.slot + t) ≡ pair_at xs (t * len + (bins.first + i))
-    by i t m (yes l) g = (gather_one xs len bins n at (at + len) old new e h c).pairs i t m l
+    by i t m (yes l) g = (gather_one xs len bins n _ old new h c).pairs i t m l
     by i t m (no l) g =
         let z : t ≡ n + 1 = omega arith in
-        let from : at + len + i ≡ (n + 1) * len + (bins.first + i) = omega arith in
+        let from : bins.first + (n + 1) * len + i ≡ (n + 1) * len + (bins.first + i) = omega arith in
         rw (z, ← from) (c.two i m)
+
+-- the last two symbols, or a last one that stands alone
+pub gather_last : (xs : List Float) (len : ℕ) (bins : BinBlock) (n next : ℕ) (old new : List Float) → n < bins.count → bins.count ≤ n + 2
+    → next ≡ min (n + 1) (bins.count - 1) → Gathered xs len bins n old
+    → Spread xs (bins.first + n * len) (bins.first + next * len) bins.width bins.slot n old new → Gathered xs len bins bins.count new
+gather_last xs len bins n next old new some few e h c = by (dec_lt (n + 1) bins.count)
+  where
+    by : Dec (n + 1 < bins.count) → Gathered xs len bins bins.count new
+    by (yes l) =
+        let behind : next ≡ n + 1 = omega arith in
+        let all : n + 2 ≡ bins.count = omega arith in
+        rw all at (gather_two xs len bins n old new h (rw behind at c))
+    by (no l) =
+        let all : n + 1 ≡ bins.count = omega arith in
+        rw all at (gather_one xs len bins n _ old new h c)
 
 -- ---- a bin of the copy
 -- slot i has the pairs of its bin, in symbol order

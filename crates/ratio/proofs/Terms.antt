@@ -40,9 +40,6 @@ pub product_of : (xs : List Float) (k : ℕ) (x y z p : Pair) → y ≡ pair_at 
     → p ≡ step_at xs k
 product_of xs k x y z p e g h q = q ∙ λ i. product binary32 (g i) ((h ∙ ap conjugate e) i)
 
-pub put_begin : (xs : List Float) (k : ℕ) (squares sizes : List Float) → TermsPut xs k 0 squares sizes
-put_begin xs k squares sizes = record { squared = λ i l. absurd (omega arith); sized = λ i l. absurd (omega arith) }
-
 pub put_again : (xs : List Float) (k n : ℕ) (squares sizes : List Float) (q : Pair) (z : Float)
     → 2 * n + 1 < length squares → n < length sizes → q ≡ square_of (step_at xs (k + n)) → z ≡ size_of (step_at xs (k + n))
     → TermsPut xs k n squares sizes → TermsPut xs k (n + 1) (with_pair squares n q) (set sizes n z)

@@ -57,11 +57,9 @@ impl BinSums {
     {
         let mut num = self.num;
         let mut den = self.den;
-        let mut i: usize = 0;
-        while i < n {
+        for i in 0..n {
             num = num + spectra::pair_at(squares, i);
             den = den + sizes[i];
-            i += 1;
         }
         BinSums { num, den }
     }
@@ -71,33 +69,11 @@ impl BinSums {
         ensures { result ≡ guarded (norm32 (of32 self.num)) self.den }
     {
         if self.den > 0.0 {
-            let n = self.num;
-            n.norm() / self.den
+            self.num.norm() / self.den
         } else {
             0.0
         }
     }
-}
-
-// Room for the squares of sixteen products. The `ensures` gives the length alone.
-fn square_room() -> [f32; 32]
-    ensures { 32 ≡ length result }
-{
-    [0.0; 32]
-}
-
-// Room for their squared sizes.
-fn size_room() -> [f32; 16]
-    ensures { 16 ≡ length result }
-{
-    [0.0; 16]
-}
-
-// The smaller of two numbers. The `ensures` has what callers use of that.
-fn smaller(a: usize, b: usize) -> usize
-    ensures { (result ≤ a) × (result ≤ b) × (0 < a → 0 < b → 0 < result) }
-{
-    if a < b { a } else { b }
 }
 
 // Stores the squares and the squared sizes of n products, the first of them of pair `from` and the one
@@ -106,14 +82,12 @@ fn put_terms(pairs: &[f32], from: usize, n: usize, squares: &mut [f32], sizes: &
     requires { (2 * (from + n + 1) ≤ length pairs.now) × (2 * n ≤ length squares.old) × (n ≤ length sizes.old) }
     ensures { TermsPut pairs.now from n squares.new sizes.new }
 {
-    let mut i: usize = 0;
-    while i < n {
+    for i in 0..n {
         let y = spectra::pair_at(pairs, from + i);
         let x = spectra::pair_at(pairs, from + i + 1);
         let p = x * y.conj();
         spectra::put_pair(squares, i, p * p);
         sizes[i] = p.norm_sqr();
-        i += 1;
     }
 }
 
@@ -123,15 +97,13 @@ fn front_sums(pairs: &[f32], n: usize) -> BinSums
     requires { 2 * (n + 1) ≤ length pairs.now }
     ensures { SummedTo pairs.now n result }
 {
-    let mut squares = square_room();
-    let mut sizes = size_room();
+    let mut squares = [0.0f32; 32];
+    let mut sizes = [0.0f32; 16];
     let mut sums = BinSums::zero();
-    let mut from: usize = 0;
-    while from < n {
-        let m = smaller(16, n - from);
+    for from in (0..n).step_by(16) {
+        let m = (n - from).min(16);
         put_terms(pairs, from, m, &mut squares, &mut sizes);
         sums = sums.add_terms(&squares, &sizes, m);
-        from += m;
     }
     sums
 }
@@ -143,12 +115,11 @@ fn bin_sums(pairs: &[f32]) -> BinSums
     ensures { Summed (bin_pairs 1 pairs.now 0) result }
 {
     let n = pairs.len() / 2 - 1;
-    let mut at = n / 4 * 4;
-    let mut sums = front_sums(pairs, at);
-    while at < n {
-        let y = spectra::pair_at(pairs, at);
-        at += 1;
-        let x = spectra::pair_at(pairs, at);
+    let front = n / 4 * 4;
+    let mut sums = front_sums(pairs, front);
+    for k in front..n {
+        let y = spectra::pair_at(pairs, k);
+        let x = spectra::pair_at(pairs, k + 1);
         sums = sums.step(x, y);
     }
     sums
@@ -192,28 +163,22 @@ pub struct BinBlock {
     pub slot: usize,
 }
 
-// Room for eight slots of 1,032 pairs. The `ensures` gives the length alone.
-fn block_room() -> [f32; 16512]
-    ensures { 16512 ≡ length result }
-{
-    [0.0; 16512]
-}
-
 // Copies the pairs of two symbols, which begin at `at` and `next`, to the pairs t and t + 1 of the
-// slots. They come to lie side by side, so that the compiler makes one store of two.
+// slots. They come to lie side by side, so that the compiler makes one store of two; one index serves
+// both symbols, since each is a slice of its own.
 fn spread_two(spectra: &[f32], at: usize, next: usize, bins: BinBlock, t: usize, block: &mut [f32])
     requires { Spreadable at next bins.width bins.slot t (length spectra.now) (length block.old) }
     ensures { Spread spectra.now at next bins.width bins.slot t block.old block.new }
 {
+    let one = &spectra[2 * at..];
+    let two = &spectra[2 * next..];
     let mut to = t;
-    let mut i: usize = 0;
-    while i < bins.width {
-        let x = spectra::pair_at(spectra, at + i);
-        let y = spectra::pair_at(spectra, next + i);
+    for i in 0..bins.width {
+        let x = spectra::pair_at(one, i);
+        let y = spectra::pair_at(two, i);
         spectra::put_pair(block, to, x);
         spectra::put_pair(block, to + 1, y);
         to += bins.slot;
-        i += 1;
     }
 }
 
@@ -223,16 +188,17 @@ fn gather(spectra: &[f32], len: usize, bins: BinBlock, block: &mut [f32])
     requires { Gatherable len bins (length spectra.now) (length block.old) }
     ensures { Gathered spectra.now len bins bins.count block.new }
 {
-    let mut at = bins.first;
-    let mut t: usize = 0;
-    while t + 1 < bins.count {
-        spread_two(spectra, at, at + len, bins, t, block);
-        at += 2 * len;
-        t += 2;
-    }
-    // An odd symbol stands alone: what follows it in the slot is not read.
-    if t < bins.count {
-        spread_two(spectra, at, at, bins, t, block);
+    for t in (0..bins.count).step_by(2) {
+        // A last symbol that stands alone is copied twice: what follows it in the slot is not read.
+        let next = (t + 1).min(bins.count - 1);
+        spread_two(
+            spectra,
+            bins.first + t * len,
+            bins.first + next * len,
+            bins,
+            t,
+            block,
+        );
     }
 }
 
@@ -256,10 +222,8 @@ fn write_block(block: &[f32], bins: BinBlock, out: &mut [f32])
         ≡ sets out.old bins.first (up_to (λ i. ratio_of (column block.now 1 (i * bins.slot) bins.count)) bins.width) }
 {
     let first = bins.first;
-    let mut i: usize = 0;
-    while i < bins.width {
+    for i in 0..bins.width {
         out[first + i] = ratio_in(block, bins, i);
-        i += 1;
     }
 }
 
@@ -272,11 +236,10 @@ fn write_ratios(spectra: &[f32], len: usize, out: &mut [f32])
 {
     let count = spectra.len() / (2 * len);
     let slot = count + 8;
-    let most = smaller(16, 8256 / slot);
-    let mut block = block_room();
-    let mut first: usize = 0;
-    while first < len {
-        let width = smaller(most, len - first);
+    let most = (8256 / slot).min(16);
+    let mut block = [0.0f32; 16512];
+    for first in (0..len).step_by(most) {
+        let width = (len - first).min(most);
         let bins = BinBlock {
             first,
             width,
@@ -285,7 +248,6 @@ fn write_ratios(spectra: &[f32], len: usize, out: &mut [f32])
         };
         gather(spectra, len, bins, &mut block);
         write_block(&block, bins, out);
-        first += width;
     }
 }
 

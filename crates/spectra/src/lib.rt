@@ -12,12 +12,7 @@ pub fn pair_at(xs: &[f32], k: usize) -> C32
     requires { 2 * k + 1 < length xs.now }
     ensures { of32 result ≡ pair_at xs.now k }
 {
-    let i = 2 * k;
-    let j = i + 1;
-    C32 {
-        re: xs[i],
-        im: xs[j],
-    }
+    C32::new(xs[2 * k], xs[2 * k + 1])
 }
 
 // Stores v as pair k.
@@ -25,10 +20,8 @@ pub fn put_pair(xs: &mut [f32], k: usize, v: C32)
     requires { 2 * k + 1 < length xs.old }
     ensures { xs.new ≡ with_pair xs.old k (of32 v) }
 {
-    let i = 2 * k;
-    let j = i + 1;
-    xs[i] = v.re;
-    xs[j] = v.im;
+    xs[2 * k] = v.re;
+    xs[2 * k + 1] = v.im;
 }
 
 // 5 unless n floats are whole spectra of len pairs, at most 1,024; 6 if none; else 0.

@@ -3,7 +3,6 @@
 use mathlib.Core.Path.{sym, ◌∙◌}
 use borrow.Author.Tests.{eq-eqb, ne_eqb}
 use Rattle.ratio.specs.Ratio.{metric_leaves}
-use Rattle.ratio.specs.Codes.{accepted}
 use Rattle.ratio.proofs.continual_metric.Goals as goal
 
 pub returns-then-code-ne0 : goal.returns-then-code-ne0
@@ -11,11 +10,6 @@ unfolding metric_leaves
 returns-then-code-ne0 c =
     let code = c.refusal-code.ensures in
     record { code = code; leaves = rw (← code, ne_eqb _ 0 c.if-code-ne0.true) }
-
-pub write_ratios-requires : goal.write_ratios-requires
-write_ratios-requires c =
-    let s = c.args in
-    accepted s.len _ _ 0 (sym c.refusal-code.ensures ∙ c.if-code-ne0.false)
 
 pub returns : goal.returns
 unfolding metric_leaves

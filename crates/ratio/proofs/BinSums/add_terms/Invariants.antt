@@ -1,6 +1,5 @@
 -- `ratio::BinSums::add_terms` meets its contract: term by term.
 -- Assumes nothing.
-use Prim.Native.Nat.{◌-◌, ◌≤◌}
 use mathlib.Core.Path.{◌≡◌}
 use lib.Ieee.{nan, binary32}
 use lib.ListN.{get_or}
@@ -13,9 +12,5 @@ use Rattle.ratio.proofs.BinSums.add_terms.Given as goal
 
 abbrev pub invariant-loop-i : goal.invariant-loop-i
 invariant-loop-i l =
-    (l.i ≤ l.n)
-    × (of32 l.num ≡ totals binary32 (of32 l.initial.num) (up_to (pair_at l.squares) l.i))
+    (of32 l.num ≡ totals binary32 (of32 l.initial.num) (up_to (pair_at l.squares) l.i))
     × (l.den ≡ total binary32 l.initial.den (up_to (λ k. get_or l.sizes k nan) l.i))
-
-abbrev pub decreases-loop-i : goal.decreases-loop-i
-decreases-loop-i l = l.n - l.i
