@@ -60,7 +60,7 @@ fn put_head(
 
 // The line of the segment at a place.
 fn put_segment(out: &mut [u8], at: usize, question: Question, place: BandPlace) -> usize
-    requires { (at + 37 ≤ length out.old) × (place.0 < 13) × (question.phase < 4) }
+    requires { (at + 37 ≤ length out.old) × (place.0 < 13) }
     ensures put { Put out.old at (line_of question place.0) result out.new }
     ensures upper_bound { result ≤ at + 37 }
 {
@@ -74,7 +74,7 @@ fn put_segment(out: &mut [u8], at: usize, question: Question, place: BandPlace) 
 
 // The thirteen lines of the segments, by place.
 fn put_segments(out: &mut [u8], at: usize, question: Question) -> usize
-    requires { (at + 481 ≤ length out.old) × (question.phase < 4) }
+    requires { at + 481 ≤ length out.old }
     ensures put { Put out.old at (joined (line_of question) (range 13)) result out.new }
     ensures upper_bound { result ≤ at + 481 }
 {
