@@ -8,5 +8,6 @@ use Rattle.chanest.proofs.Capture.write_segment.Given as goal
 
 abbrev pub invariant-loop-i : goal.invariant-loop-i
 invariant-loop-i l =
-    Written (λ j. window_at l.self.win l.self.spectra.now l.self.signs.now (carrier_of j) (scattered_offsets l.self.win.current (back_of l.self.win.current j))) l.fn.from.0 l.i
-    l.initial.out l.out
+    let win = l.self.win in
+    Written (λ j. window_at win l.self.spectra.now l.self.signs.now (carrier_of j) (scattered_offsets win.current (back_of win.current j)))
+    l.fn.from.0 l.i l.initial.out l.out
