@@ -5,11 +5,12 @@
 ghost use Rattle.correlation.specs.Correlation.{starts};
 ghost use Rattle.correlation.specs.Inner.{Holds, Writable, Windowed, Inside};
 
+use complex::C64;
+
 // The summed correlation and energy at an offset.
 #[derive(Clone, Copy)]
 pub struct Window {
-    pub re: f64,
-    pub im: f64,
+    pub correlation: C64,
     pub energy: f64,
 }
 
@@ -52,14 +53,18 @@ pub fn window_at(sums: &[f64], ng: usize, p: usize, len: usize, d: usize) -> Win
     let mut re = 0.0f64;
     let mut im = 0.0f64;
     let mut energy = 0.0f64;
+    // The start runs along: a product in each turn takes longer.
+    let mut a = d;
     for s in 0..count {
-        let a = d + s * p;
-        let b = a + ng;
         let low = 3 * a;
-        let high = 3 * b;
+        let high = 3 * (a + ng);
         re += sums[high] - sums[low];
         im += sums[high + 1] - sums[low + 1];
         energy += sums[high + 2] - sums[low + 2];
+        a += p;
     }
-    Window { re, im, energy }
+    Window {
+        correlation: C64::new(re, im),
+        energy,
+    }
 }
