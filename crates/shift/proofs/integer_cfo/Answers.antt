@@ -28,9 +28,6 @@ pub returns-then-bound-n : goal.returns-then-bound-n
 returns-then-bound-n c =
     refused _ _ _ _ _ c.in_ok-m.ensures BadBound (by_bound _ _ _ _ _ _ c.fft_size-n.ensures c.in_ok-refusal.ensures refl c.if-bound-n.true)
 
-pub write_ratios-requires : goal.write_ratios-requires
-write_ratios-requires c = accepted _ _ _ 0 (sym c.in_ok-refusal.ensures)
-
 pub search-best-requires : goal.search-best-requires
 search-best-requires c =
     searchable c.in_ok-m.m _ _ _ _ _ c.fft_size-n.ensures c.write_ratios.ensures c.put_pattern-bins.ensures c.if-bound-n.false
