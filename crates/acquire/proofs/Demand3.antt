@@ -33,7 +33,7 @@ use Rattle.shift.specs.Facts.{shift_number_lem}
 use Rattle.samples_needed.specs.Samples.{is_mode, is_guard}
 use Rattle.correlation.specs.Correlation.{pairs_in}
 use Rattle.guess.specs.Guess.{guessed, guess_code, guess_answer}
-use Rattle.guess.specs.Louder.{louder}
+use Rattle.guess.specs.Louder.{louder_answer}
 use Rattle.guess.specs.Changed.{changed_guess, changed_parts}
 use Rattle.guess.specs.Facts.{search_number_lem}
 use Rattle.guess.specs.declared.ModeGuess.{ModeGuess}
@@ -215,8 +215,8 @@ module _ (negates : Bool) (c : Change) (modes guards : List ℕ) (room : ℕ) (x
   guess_kept : GuessKept c.gain modes guards room xs ys
   guess_kept =
       record {
-        answer = by_search (λ r. r) (louder c.gain) (λ k. refl)
-            (λ e. let p = modes_few modes guards (length xs) room e in changed_guess negates c xs ys modes guards p.0 p.1 A h);
+        answer = by_search (λ r. r) (louder_answer c.gain) (λ k. refl)
+            (λ e. let p = modes_few modes guards (length xs) room e in ap Ok (changed_guess negates c xs ys modes guards p.0 p.1 A h));
         cfo = λ lent. by_search (λ r. cfo_given r lent) (λ r. cfo_given r lent) (λ k. refl)
             (λ e. let p = modes_few modes guards (length xs) room e in
             changed_parts cfo_frac times_cfo negates c xs ys modes guards p.0 p.1 A h lent);

@@ -9,7 +9,7 @@
 --                          there is no premise: NaNs and infinities are taken too (spectra/specs/Changes)
 --   moved_bin, MovedRound  bin b moved by s is bin (b + s) mod n, and a list of ratios so moved (shift/specs/Shift, shift/specs/Moves)
 --   InRange, BeatsAll      from -bound to bound; to have the greater score, which no NaN does or suffers (shift/specs/Moves)
---   louder                 both parts of the correlation times the gain twice, and all else as it was (guess/specs/Louder)
+--   louder_answer          both parts of the correlation times the gain twice, and all else as it was (guess/specs/Louder)
 --   cfo_frac               the fractional carrier offset that both parts tell (cfo_frac/specs/CfoFrac)
 -- Answers, and what is left in lent lists, are the definitions that the operations' contracts cite.
 -- Definitions only.
@@ -25,7 +25,7 @@ use Rattle.shift.specs.Shift.{moved_bin, pattern, shift_leaves, shift_answer}
 use Rattle.shift.specs.Moves.{InRange, BeatsAll, MovedRound}
 use Rattle.guess.specs.declared.ModeGuess.{ModeGuess}
 use Rattle.guess.specs.Guess.{guess_answer, guess_given}
-use Rattle.guess.specs.Louder.{louder}
+use Rattle.guess.specs.Louder.{louder_answer}
 use Rattle.cfo_frac.specs.CfoFrac.{cfo_frac}
 use Rattle.pilot_phase.specs.PilotPhase.{phase_answer, counts_answer, lead_answer}
 use Rattle.segment_kinds.specs.SegmentKinds.{kinds_code, kinds_leaves, kinds_answer, scores_answer}
@@ -74,7 +74,7 @@ cfo_given answer lent = guess_given (λ g. cfo_frac (pair g.re g.im)) answer len
 
 pub record GuessKept (gain : ℕ) (modes guards : List ℕ) (room : ℕ) (xs ys : List Float) : Type 0 where
   -- found or not, mode, guard, offset and metric are the same, and both parts of the correlation are multiplied by the gain twice
-  pub answer : guess_answer ys modes guards room ≡ louder gain (guess_answer xs modes guards room)
+  pub answer : guess_answer ys modes guards room ≡ louder_answer gain (guess_answer xs modes guards room)
   -- the fractional offset that both parts tell is the same
   pub cfo : (lent : Float) → cfo_given (guess_answer ys modes guards room) lent ≡ cfo_given (guess_answer xs modes guards room) lent
 

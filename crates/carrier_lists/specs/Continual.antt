@@ -1,9 +1,9 @@
 -- The continual list's four groups hold exactly the carriers of TMCC, AC, CP and the edge, each ascending, at any phase; and the number
 -- of its answer is the operation's code.
 -- Assumes nothing.
-use Rattle.std.specs.Prelude.{ℕ, ◌*◌, ◌-◌, ◌≤◌, Bool, true, false, cond, ◌||◌, List, [], ◌∷◌, ◌++◌, ◌≡◌, refl, eqb, length, Option, Some, None, Result}
+use Rattle.std.specs.Prelude.{ℕ, ◌*◌, ◌-◌, true, false, cond, ◌||◌, List, [], ◌∷◌, ◌++◌, ◌≡◌, refl, eqb, length, Option, Some, None, Result}
 use Rattle.std.proofs.Common.{sym, ap, ◌∙◌, arith, add-one, eq-eqb, ne_eqb, lit<, lit≤}
-use Rattle.lists.specs.Refusals.{unless}
+use Rattle.lists.specs.Refusals.{unless_most}
 use Rattle.lists.specs.Lists.{range, select, chosen}
 use Rattle.lists.specs.Select.{select_append, select_none, Ascending, select_ascending}
 use Rattle.lists.specs.Truth.{same, same_true}
@@ -99,12 +99,7 @@ pub continual_number_lem : (mode : Option Mode) (kinds : List ℕ) (n : ℕ)
     → code_of (continual_list_answer mode kinds n) ≡ continual_list_code mode kinds n
 unfolding continual_list_answer continual_list_code
 continual_number_lem None kinds n = refl
-continual_number_lem (Some m) kinds n = answered_code (continual_list_code (Some m) kinds n) _ (few _ _)
-  where
-    few : (a b : Bool) → unless a 2 (unless b 7 0) ≤ 11
-    few true true = lit≤ tt
-    few true false = lit≤ tt
-    few false b = lit≤ tt
+continual_number_lem (Some m) kinds n = answered_code (continual_list_code (Some m) kinds n) _ (unless_most _ 2 _ 11 (lit≤ tt) (unless_most _ 7 0 11 (lit≤ tt) (lit≤ tt)))
 
 pub continual_listed : (mode : Option Mode) (kinds out : List ℕ) (r : Result ℕ Refusal) (out' : List ℕ)
     → r ≡ continual_list_answer mode kinds (length out) → out' ≡ continual_list_leaves mode kinds out → ContinualListed mode kinds out r out'

@@ -1,8 +1,8 @@
 -- What the tests on the way to a return make of the definition of `estimate_grid`.
 -- Assumes nothing.
-use Rattle.std.proofs.Common.{Option, Some, None}
+use Rattle.std.proofs.Common.{Option}
 use Prim.Native.Nat.{ℕ}
-use mathlib.Core.Bool.{true, false}
+use mathlib.Core.Bool.{false}
 use mathlib.Core.List.{List}
 use mathlib.Core.Path.{◌≡◌, refl, sym, ◌∙◌}
 use borrow.Author.Tests.{eq-eqb, ne_eqb}
@@ -10,42 +10,35 @@ use lib.Dec.{eqb}
 use lib.ListN.{length}
 use lib.Ieee.{Float}
 use Rattle.params.specs.declared.Mode.{Mode}
-use Rattle.frame.specs.Inner.{AcceptedLayout}
-use Rattle.frame.specs.Answers.{kinds_good, by_refusal}
+use Rattle.params.specs.declared.Refusal.{Refusal}
+use Rattle.params.specs.Params.{refusal_number, kind_codes}
+use Rattle.params.specs.Laws.{some_number}
+use Rattle.frame.specs.declared.FrameLayout.{FrameLayout}
+use Rattle.frame.specs.Inner.{Accepted, RefusedLayout}
+use Rattle.frame.specs.Answers.{by_refusal}
 use Rattle.pilot_times.specs.declared.Current.{Current}
 use Rattle.chanest.specs.Grid.{grid, window_code, grid_code, grid_leaves, GridEstimated}
 
-module _ {number : Option Mode} {kinds : List ℕ} {code : ℕ} {m : Mode} {read : List ℕ} (a : AcceptedLayout number kinds code m read)
-    (xs : List Float) (current : Current) (old : List Float) where
-  abbrev code_of : Option Mode → ℕ
-  code_of k = grid_code k kinds (length xs) current (length old)
-
-  refused : (k : Option Mode) (n : ℕ) → n ≡ code_of k → (n ≡ 0 → ⊥) → GridEstimated k kinds xs current old n old
-  unfolding grid_leaves
-  refused None n e h = record { code = e; leaves = refl }
-  refused (Some m) n e h =
-      let no : eqb (code_of (Some m)) 0 ≡ false = ne_eqb _ 0 (λ z. h (e ∙ z)) in
-      record { code = e; leaves = rw no }
-
+module _ (kinds : List ℕ) (xs : List Float) (current : Current) (old : List Float) where
   -- a layout's refusal is the operation's
-  layout_first : (code ≡ 0 → ⊥) → code ≡ code_of number
-  unfolding grid_code
-  layout_first = by_refusal number kinds code m read a (λ k c. c ≡ code_of k) refl (λ k g. rw g)
+  pub bad_layout : (number : Option Mode) (refusal : Refusal) → RefusedLayout number kinds refusal
+      → GridEstimated number kinds xs current old (refusal_number refusal) old
+  unfolding grid_code grid_leaves
+  bad_layout =
+      by_refusal kinds (λ n r. GridEstimated n kinds xs current old (refusal_number r) old) (record { code = refl; leaves = refl })
+      (λ m g. record { code = rw g; leaves = rw g })
 
-  pub bad_layout : (code ≡ 0 → ⊥) → GridEstimated number kinds xs current old code old
-  bad_layout h = refused number code (layout_first h) h
+  -- an accepted layout, and what refuses the other numbers
+  module _ {number : Option Mode} {layout : FrameLayout} (a : Accepted number kinds layout) where
+    pub bad_numbers : (refusal : Refusal) → refusal_number refusal ≡ window_code layout.mode (length xs) current (length old)
+        → GridEstimated number kinds xs current old (refusal_number refusal) old
+    unfolding grid_code grid_leaves
+    bad_numbers refusal e =
+        let no : eqb (window_code layout.mode (length xs) current (length old)) 0 ≡ false = ne_eqb _ 0 (λ z. some_number refusal (e ∙ z)) in
+        record { code = rw (a.known, a.good) e; leaves = rw (a.known, a.good, no) }
 
-  -- an accepted layout, and the code of the other numbers
-  module _ (z : code ≡ 0) {n : ℕ} (e : n ≡ window_code m (length xs) current (length old)) where
-    told : n ≡ code_of (Some m)
-    unfolding grid_code
-    told = rw (kinds_good number kinds code m read a z) e
-
-    pub bad_numbers : (n ≡ 0 → ⊥) → GridEstimated number kinds xs current old n old
-    bad_numbers h = rw (a.known z) (refused (Some m) n told h)
-
-    pub answered : {now : List Float} → n ≡ 0 → now ≡ grid m read xs current old → GridEstimated number kinds xs current old 0 now
-    unfolding grid_leaves
+    pub answered : {now : List Float} → 0 ≡ window_code layout.mode (length xs) current (length old)
+        → now ≡ grid layout.mode (kind_codes layout.kinds) xs current old → GridEstimated number kinds xs current old 0 now
+    unfolding grid_code grid_leaves
     answered o p =
-        let none : eqb (code_of (Some m)) 0 ≡ true = eq-eqb _ 0 (sym told ∙ o) in
-        rw (a.known z) (record { code = sym o ∙ told; leaves = rw (none, ← a.same z) p })
+        record { code = rw (a.known, a.good) o; leaves = rw (a.known, a.good, eq-eqb _ 0 (sym o)) (rw a.same at p) }

@@ -2,7 +2,7 @@
 -- Assumes nothing.
 use Prim.Native.Nat.{ℕ, ◌+◌, ◌*◌, ◌/◌, ◌≤◌, ◌<◌}
 use mathlib.Core.List.{List}
-use mathlib.Core.Path.{◌≡◌, ap, ◌∙◌}
+use mathlib.Core.Path.{◌≡◌, ap, subst, ◌∙◌}
 use native.Mathlib.Omega.{arith}
 use lib.ListN.{get_or, length}
 use lib.Ieee.{Float}
@@ -16,10 +16,11 @@ use Rattle.prbs.specs.Buffered.{signs_length}
 use Rattle.pilot_times.specs.declared.Window.{Window}
 use Rattle.pilot_times.specs.declared.Offsets.{Offsets}
 use Rattle.pilot_times.specs.declared.Times.{Times}
-use Rattle.pilot_times.specs.Window.{in_window}
-use Rattle.pilot_times.specs.Inner.{spectra_of, TimesOf}
+use Rattle.pilot_times.specs.declared.Scattered.{Scattered}
+use Rattle.pilot_times.specs.Window.{scattered_offsets, in_window}
+use Rattle.pilot_times.specs.Inner.{spectra_of, TimesOf, ScatteredTimes}
 use Rattle.pilot_line.specs.Estimate.{inverse_of, estimate_of}
-use Rattle.chanest.specs.Grid.{carrier_of, segment_points, estimate_at}
+use Rattle.chanest.specs.Grid.{carrier_of, back_of, segment_points, estimate_at}
 use Rattle.chanest.specs.Places.{pointed}
 use Rattle.chanest.specs.Inner.{Placed, point_by, Writable, Written}
 use Rattle.chanest.proofs.Writing.{nothing, one_more}
@@ -32,6 +33,12 @@ estimated win times xs signs i at e = e ∙ rw at
 -- the estimate at carrier k of a window, whose pilot is sent at the offsets o
 abbrev pub window_at : Window → List Float → List ℕ → BandCarrier → Offsets → Pair
 window_at win xs signs k o = estimate_of win xs k (inverse_of (get_or signs k.0 0)) (in_window win o)
+
+-- the times of the pilots that were sent last as many symbols ago as point i's
+pub sent_ago : (win : Window) (s : Scattered) → ScatteredTimes win s → {back : ℕ} (i : ℕ) → back ≡ back_of win.current i → back < 4 → (none : Times)
+    → TimesOf win (scattered_offsets win.current (back_of win.current i)) (get_or s.ago back none)
+sent_ago win s t {back} i e l none =
+    subst (λ (b : ℕ). TimesOf win (scattered_offsets win.current b) (get_or s.ago back none)) e (t back none l)
 
 -- a point of the band; of a segment that ends within it, where c is the code's count of the segment's carriers
 module _ (mode : Mode) where

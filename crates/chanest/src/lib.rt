@@ -8,7 +8,7 @@
 #![tactic(auto)]
 
 ghost use Rattle.std.specs.Prelude.{◌≡◌, ◌+◌, ◌*◌, ◌≤◌, ◌<◌, length};
-ghost use Rattle.params.specs.Params.{mode_from};
+ghost use Rattle.params.specs.Params.{mode_from, code_of, kind_codes};
 ghost use Rattle.spectra.specs.Spectra.{with_pair};
 ghost use Rattle.pilot_times.specs.Window.{at_least_one};
 ghost use Rattle.pilot_times.specs.Inner.{ScatteredTimes};
@@ -18,7 +18,7 @@ ghost use Rattle.chanest.specs.Inner.{Placed, point_by, Writable, Written};
 
 use frame::FrameLayout;
 use ofdm::{BandCarrier, BandPlace};
-use params::{Mode, SegmentKind};
+use params::{Mode, Refusal, SegmentKind};
 use pilot_times::{Current, Scattered, Times, Window};
 
 // A point of the grid, counted from the lowest: each is three carriers above the one before.
@@ -65,15 +65,9 @@ fn window_of(mode: Mode, spectra: &[f32], current: Current) -> Window
 
 // Whether the segment at a place of the band is coherent; above the last place there is none.
 fn is_coherent(layout: FrameLayout, place: BandPlace) -> bool
-    ensures { result ≡ coherent_at layout.kinds place.0 }
+    ensures { result ≡ coherent_at (kind_codes layout.kinds) place.0 }
 {
-    if place.0 >= 13 {
-        return false;
-    }
-    match layout.kind(ofdm::segment_at_position(place)) {
-        SegmentKind::Coherent => true,
-        SegmentKind::Differential => false,
-    }
+    place.0 < 13 && layout.kind(ofdm::segment_at_position(place)) == SegmentKind::Coherent
 }
 
 // Writes point i, whose carrier has its pilot at the times.
@@ -109,13 +103,10 @@ fn write_segment(
     ensures { Written (scattered_at mode spectra.now win.current) from.0 (from.0 + segment_points mode)
         out.old out.new }
 {
-    let to = from.0 + mode.carriers_per_segment() / 3;
-    let mut i = from.0;
-    while i < to {
+    for i in from.0..from.0 + mode.carriers_per_segment() / 3 {
         let point = GridPoint(i);
-        let times = scattered.at(point.back(win.current));
+        let times = scattered.ago[point.back(win.current)];
         write_point(win, times, spectra, signs, point, out);
-        i += 1;
     }
 }
 
@@ -123,14 +114,13 @@ fn write_segment(
 // continual pilot that closes it at the lowest point of the place above, of which the edge is the last.
 fn write_points(layout: FrameLayout, win: Window, spectra: &[f32], signs: &[u8], out: &mut [f32])
     requires { Writable layout.mode win spectra.now signs.now out.old }
-    ensures { out.new ≡ grid_of layout.mode layout.kinds spectra.now win.current out.old }
+    ensures { out.new ≡ grid_of layout.mode (kind_codes layout.kinds) spectra.now win.current out.old }
 {
     let scattered = pilot_times::scattered_times(win);
     let continual = pilot_times::continual_times(win);
     let mode = layout.mode;
     let mut below = false; // whether the segment below is coherent
-    let mut place: usize = 0;
-    while place < 14 {
+    for place in 0..14 {
         let here = BandPlace(place);
         let lowest = lowest_point(mode, here);
         let coherent = is_coherent(layout, here);
@@ -140,40 +130,36 @@ fn write_points(layout: FrameLayout, win: Window, spectra: &[f32], signs: &[u8],
             write_point(win, continual, spectra, signs, lowest, out);
         }
         below = coherent;
-        place += 1;
     }
 }
 
-// What refuses the numbers of a grid, or 0: 3 for a bad phase, 5 unless whole spectra, at most 1,024, 6
-// if none, 4 for an index outside, 10 for w above 64, 7 unless n floats are the grid.
-fn refusal(mode: Mode, floats: usize, current: Current, n: usize) -> u8
-    ensures { result ≡ window_code mode floats current n }
+// What refuses the numbers of a grid: 3 for a bad phase, 5 unless whole spectra, at most 1,024, 6 if none,
+// 4 for an index outside, 10 for w above 64, 7 unless n floats are the grid.
+fn refusal(mode: Mode, floats: usize, current: Current, n: usize) -> Result<(), Refusal>
+    ensures { code_of result ≡ window_code mode floats current n }
 {
     let k = mode.total_carriers();
     if current.phase > 3 {
-        return 3;
+        return Err(Refusal::BadPhase);
     }
-    let code = spectra::refusal(k, floats);
-    if code != 0 {
-        return code;
-    }
+    spectra::refusal(k, floats)?;
     let count = floats / (2 * k);
     if current.index >= count {
-        return 4;
+        return Err(Refusal::Outside);
     }
     if current.w > 64 {
-        return 10;
+        return Err(Refusal::TooWide);
     }
     if n != 2 * (k / 3 + 2) {
-        return 7;
+        return Err(Refusal::WrongLength);
     }
-    0
+    Ok(())
 }
 
 // The grid of an accepted call.
 fn write_grid(layout: FrameLayout, spectra: &[f32], current: Current, out: &mut [f32])
     requires { window_code layout.mode (length spectra.now) current (length out.old) ≡ 0 }
-    ensures { out.new ≡ grid layout.mode layout.kinds spectra.now current out.old }
+    ensures { out.new ≡ grid layout.mode (kind_codes layout.kinds) spectra.now current out.old }
 {
     let mode = layout.mode;
     let win = window_of(mode, spectra, current);
@@ -196,20 +182,11 @@ pub fn estimate_grid(
     spectra: &[f32],
     current: Current,
     grid: &mut [f32],
-) -> u8
-    ensures { GridEstimated (mode_from mode) kinds.now spectra.now current grid.old result grid.new }
+) -> Result<(), Refusal>
+    ensures { GridEstimated (mode_from mode) kinds.now spectra.now current grid.old (code_of result) grid.new }
 {
-    let new = FrameLayout::new(mode, kinds);
-    let code = new.code;
-    if code != 0 {
-        return code;
-    }
-    let layout = new.layout;
-    let m = layout.mode;
-    let code = refusal(m, spectra.len(), current, grid.len());
-    if code != 0 {
-        return code;
-    }
+    let layout = FrameLayout::new(mode, kinds)?;
+    refusal(layout.mode, spectra.len(), current, grid.len())?;
     write_grid(layout, spectra, current, grid);
-    0
+    Ok(())
 }

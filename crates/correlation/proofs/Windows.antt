@@ -48,18 +48,18 @@ gaps_more slot sums ng from a x e =
     let g : ℕ → Float = gap (entry slot sums) ng in
     rw (e, map-append g from (a ∷ []), total_append binary64 (plus_zero binary64) (map g from) (g a ∷ []))
 
-pub windowed_more : (sums : List Float) (ng : ℕ) (f : ℕ → ℕ) (s : ℕ) (w : Window) → Windowed sums ng (up_to f s) w
+pub windowed_more : (sums : List Float) (ng : ℕ) (f : ℕ → ℕ) (s a : ℕ) (w : Window) → a ≡ f s → Windowed sums ng (up_to f s) w
     → Windowed sums ng (up_to f (s + 1)) (record {
-      re = add binary64 w.re (gap (entry reals sums) ng (f s));
-      im = add binary64 w.im (gap (entry imaginaries sums) ng (f s));
-      energy = add binary64 w.energy (gap (entry energies sums) ng (f s));
+      re = add binary64 w.re (gap (entry reals sums) ng a);
+      im = add binary64 w.im (gap (entry imaginaries sums) ng a);
+      energy = add binary64 w.energy (gap (entry energies sums) ng a);
     })
-windowed_more sums ng f s w h =
-    rw (add-one s)
+windowed_more sums ng f s a w e h =
+    rw (add-one s, ← e)
     (record {
-      re = gaps_more reals sums ng (up_to f s) (f s) w.re h.re;
-      im = gaps_more imaginaries sums ng (up_to f s) (f s) w.im h.im;
-      energy = gaps_more energies sums ng (up_to f s) (f s) w.energy h.energy;
+      re = gaps_more reals sums ng (up_to f s) a w.re h.re;
+      im = gaps_more imaginaries sums ng (up_to f s) a w.im h.im;
+      energy = gaps_more energies sums ng (up_to f s) a w.energy h.energy;
     })
 
 pub windowed_none : (sums : List Float) (ng : ℕ) → let z = plus_zero binary64 in Windowed sums ng [] (record { re = z; im = z; energy = z })

@@ -52,14 +52,15 @@ pub fn window_at(sums: &[f64], ng: usize, p: usize, len: usize, d: usize) -> Win
     let mut re = 0.0f64;
     let mut im = 0.0f64;
     let mut energy = 0.0f64;
+    // The start runs along: a product in each turn takes longer.
+    let mut a = d;
     for s in 0..count {
-        let a = d + s * p;
-        let b = a + ng;
         let low = 3 * a;
-        let high = 3 * b;
+        let high = 3 * (a + ng);
         re += sums[high] - sums[low];
         im += sums[high + 1] - sums[low + 1];
         energy += sums[high + 2] - sums[low + 2];
+        a += p;
     }
     Window { re, im, energy }
 }

@@ -18,7 +18,8 @@ use Rattle.guess.specs.Facts.{scan_last}
 use Rattle.guess.specs.Inner.{guess_of, better_of}
 
 -- ---- one offset more
-pub next_number : (f : Option ModeGuess → ℕ → Option ModeGuess) (b r s : Option ModeGuess) (d : ℕ) → r ≡ scan f b (range d) → s ≡ f r d → s ≡ scan f b (range (d + 1))
+pub next_number : (f : Option ModeGuess → ℕ → Option ModeGuess) (b r s : Option ModeGuess) (d : ℕ) → r ≡ scan f b (range d)
+    → s ≡ f r d → s ≡ scan f b (range (d + 1))
 next_number f b r s d e g = rw add-one (g ∙ (ap (λ (z : Option ModeGuess). f z d) e ∙ sym (scan_last f b (range d) d)))
 
 -- ---- an offset

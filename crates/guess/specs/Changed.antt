@@ -43,7 +43,8 @@ louder_scan : (k : ℕ) (p : ℕ → Bool) (f g : Option ModeGuess → ℕ → O
 unfolding scan
 louder_scan k p f g [] best t h = refl
 louder_scan k p f g (x ∷ xs) best t h =
-    ap (λ (b : Option ModeGuess). scan f b xs) (h best x (both_left (p x) (all_in p xs) t)) ∙ louder_scan k p f g xs (g best x) (both_right (p x) (all_in p xs) t) h
+    ap (λ (b : Option ModeGuess). scan f b xs) (h best x (both_left (p x) (all_in p xs) t))
+    ∙ louder_scan k p f g xs (g best x) (both_right (p x) (all_in p xs) t) h
 
 -- what ys has at an offset is what xs has there, but for the gain
 record Kept (k : ℕ) (xs ys : List Float) (mode guard d : ℕ) : Type 0 where

@@ -46,7 +46,8 @@ cond_keeps P true x y h g = h
 cond_keeps P false x y h g = g
 
 -- p says which entries are met
-scan_keeps : (P : Option ModeGuess → Type 0) (p : ℕ → Bool) (f : Option ModeGuess → ℕ → Option ModeGuess) → ((b : Option ModeGuess) (x : ℕ) → p x ≡ true → P b → P (f b x))
+scan_keeps : (P : Option ModeGuess → Type 0) (p : ℕ → Bool) (f : Option ModeGuess → ℕ → Option ModeGuess)
+    → ((b : Option ModeGuess) (x : ℕ) → p x ≡ true → P b → P (f b x))
     → (b : Option ModeGuess) (xs : List ℕ) → all_in p xs ≡ true → P b → P (scan f b xs)
 unfolding scan
 scan_keeps P p f k b [] t h = h
@@ -144,7 +145,7 @@ HasGuess None = ⊥
 some_offered : (xs : List Float) (mode guard : ℕ) (b : Option ModeGuess) (d : ℕ) → HasGuess b → HasGuess (offered xs mode guard b d)
 some_offered xs mode guard b d h =
     let g = guess_at xs mode guard d in
-    cond_keeps HasGuess (le (energy_at xs mode guard d) (plus_zero binary64)) b (cond (beats g b) (Some g) b) h (cond_keeps HasGuess (beats g b) (Some g) b tt h)
+    cond_keeps HasGuess (le (energy_at xs mode guard d) (plus_zero binary64)) b _ h (cond_keeps HasGuess (beats g b) (Some g) b tt h)
 
 module _ (f : Option ModeGuess → ℕ → Option ModeGuess) (k : (b : Option ModeGuess) (x : ℕ) → HasGuess b → HasGuess (f b x)) where
   started : (b : Option ModeGuess) (xs : List ℕ) → scan f b xs ≡ None → b ≡ None

@@ -2,7 +2,8 @@
 -- the lists and each offset within a symbol. Prefix sums of the lagged products and of the halved energies are made once a mode
 -- (correlation/specs/Correlation).
 -- Definitions only.
-use Rattle.std.specs.Prelude.{ℕ, ◌+◌, ◌*◌, ◌%◌, Bool, true, ◌&&◌, cond, List, ◌≡◌, leb, ltb, eqb, length, replicate, fold, Float, Option, Some, None, Result, Ok, Err}
+use Rattle.std.specs.Prelude.{ℕ, ◌+◌, ◌*◌, ◌%◌, Bool, true, ◌&&◌, cond, List, ◌≡◌, leb}
+use Rattle.std.specs.Prelude.{ltb, eqb, length, replicate, fold, Float, Option, Some, None, Result, Ok, Err}
 use Rattle.std.specs.Float.{binary64}
 use Rattle.std.specs.Float.Ieee.{div, lt, le}
 use Rattle.ieee.specs.Constants.{plus_zero}

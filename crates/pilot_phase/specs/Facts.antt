@@ -8,17 +8,15 @@ use Rattle.std.proofs.lemmas.Bool.{eqb-false}
 use Rattle.std.specs.Float.{binary32}
 use Rattle.std.specs.Float.Ieee.{div, of_int, of_bits}
 use Rattle.lists.specs.Lists.{up_to}
-use Rattle.lists.specs.Refusals.{unless}
+use Rattle.lists.specs.Refusals.{unless_most}
 use Rattle.ieee.specs.Constants.{plus_zero}
 use Rattle.lists.specs.Select.{length_up_to, get_or_up_to, up_to_same}
 use Rattle.lists.specs.Tests.{agree}
 use Rattle.params.specs.declared.Mode.{Mode}
 use Rattle.params.specs.declared.Mode.TheVariants.{M1, M2, M3}
 use Rattle.params.specs.declared.Refusal.{Refusal}
-use Rattle.params.specs.declared.Refusal.TheVariants.{BadMode, BadKinds, BadPhase, Outside, NotWhole, NoSpectra, WrongLength}
-use Rattle.params.specs.declared.Refusal.TheVariants.{BadBound, BadGuard, TooWide, BadForm}
 use Rattle.params.specs.Params.{total_carriers, refusal_number, code_of}
-use Rattle.params.specs.Laws.{answered_code}
+use Rattle.params.specs.Laws.{answered_code, some_number}
 use Rattle.spectra.specs.Spectra.{spectra_in}
 use Rattle.frame.specs.Operations.{are_kinds}
 use Rattle.pilot_phase.specs.declared.PilotPhase.{PilotPhase}
@@ -33,27 +31,12 @@ use Rattle.pilot_phase.specs.PilotPhase.{phase_of, phase_code, detected, phase_a
 pub phase_number_lem : (mode : Option Mode) (kinds : List ℕ) (xs : List Float) → code_of (phase_answer mode kinds xs) ≡ phase_code mode kinds (length xs)
 unfolding phase_answer phase_code
 phase_number_lem None kinds xs = refl
-phase_number_lem (Some m) kinds xs = answered_code (phase_code (Some m) kinds (length xs)) _ (few _ _)
-  where
-    few : (a b : Bool) → unless a 2 (unless b 5 0) ≤ 11
-    few true true = lit≤ tt
-    few true false = lit≤ tt
-    few false b = lit≤ tt
+phase_number_lem (Some m) kinds xs = answered_code (phase_code (Some m) kinds (length xs)) _ (unless_most _ 2 _ 11 (lit≤ tt) (unless_most _ 5 0 11 (lit≤ tt) (lit≤ tt)))
 
 -- so a refusal's number is never 0
 pub refused_number : (mode : Option Mode) (kinds : List ℕ) (xs : List Float) (refusal : Refusal) → phase_answer mode kinds xs ≡ Err refusal
     → refusal_number refusal ≡ 0 → ⊥
-refused_number mode kinds xs BadMode e z = omega arith
-refused_number mode kinds xs BadKinds e z = omega arith
-refused_number mode kinds xs BadPhase e z = omega arith
-refused_number mode kinds xs Outside e z = omega arith
-refused_number mode kinds xs NotWhole e z = omega arith
-refused_number mode kinds xs NoSpectra e z = omega arith
-refused_number mode kinds xs WrongLength e z = omega arith
-refused_number mode kinds xs BadBound e z = omega arith
-refused_number mode kinds xs BadGuard e z = omega arith
-refused_number mode kinds xs TooWide e z = omega arith
-refused_number mode kinds xs BadForm e z = omega arith
+refused_number mode kinds xs refusal e = some_number refusal
 
 -- what stands beside the answer, by the answer's case
 pub beside_detected : {A : Type 0} {a : Result (Option PilotPhase) Refusal} {found : Option PilotPhase} (given lent : A) → a ≡ Ok found

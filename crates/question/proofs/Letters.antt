@@ -34,7 +34,7 @@ module _ (letters : List ℕ) (all : length letters ≡ 13) where
       record {
         size = length-set kinds i kind ∙ r.size;
         front =
-            rw (map-set kind_code kinds i kind, take_more_set (map kind_code kinds) i (kind_code kind) inside, map_more (λ b. b - 67) letters i 0 here, r.front, code);
+            rw (map-set kind_code kinds i kind, take_more_set _ i (kind_code kind) inside, map_more (λ b. b - 67) letters i 0 here, r.front, code);
         good = rw (list_all_more is_kind_letter letters i 0 here, r.good) (letter_good kind _ e);
       }
 

@@ -1,43 +1,15 @@
 -- `chanest::write_points` meets its contract: the points of the places passed are written, and `below` tells whether the last one is coherent.
 -- Assumes nothing.
-use mathlib.Core.Path.{sym, ◌∙◌}
-use native.Mathlib.Omega.{arith}
 use Rattle.chanest.proofs.Points.{by_window, placed, stored}
-use Rattle.chanest.proofs.Band.{begin, all, still, part_ends, low, again_coherent, again_closed, again_open}
+use Rattle.chanest.proofs.Band.{all, still, low, again_coherent, again_closed, again_open}
 use Rattle.chanest.proofs.write_points.Goals as goal
 use Rattle.chanest.proofs.write_points.Goals.{then-coherent, else-coherent+then-below, else-coherent+else-below}
-
-pub scattered_times-scattered-requires : goal.scattered_times-scattered-requires
-scattered_times-scattered-requires c = c.requires.usable
-
-pub continual_times-continual-requires : goal.continual_times-continual-requires
-continual_times-continual-requires c = c.requires.usable
-
-pub loop-place-init : goal.loop-place-init
-loop-place-init c = begin _ _ _ _ _
-
-pub lowest_point-lowest-requires : goal.lowest_point-lowest-requires
-lowest_point-lowest-requires c = omega (arith, c.loop-place-test.true)
-
-pub write_segment-requires : goal.write_segment-requires
-write_segment-requires c =
-    let h = c.loop-place-test.true in (
-      still _ _ _ _ _ c.loop-place.invariant h c.lowest_point-lowest.ensures c.requires,
-      c.scattered_times-scattered.ensures,
-      part_ends _ _ _ _ _ c.loop-place.invariant h c.lowest_point-lowest.ensures (sym c.is_coherent-coherent.ensures ∙ c.if-coherent.true),
-    )
 
 pub write_point-requires : goal.write_point-requires
 write_point-requires c =
     let h = c.loop-place-test.true in
     placed (still _ _ _ _ _ c.loop-place.invariant h c.lowest_point-lowest.ensures c.requires)
     (low _ _ _ _ _ c.loop-place.invariant h c.lowest_point-lowest.ensures) c.continual_times-continual.ensures
-
-pub overflow_add-place : goal.overflow_add-place
-overflow_add-place c = omega (arith, c.loop-place-test.true)
-
-pub loop-place-smaller : goal.loop-place-smaller
-loop-place-smaller c = omega (arith, c.loop-place-test.true)
 
 pub loop-place-preserved : goal.loop-place-preserved
 loop-place-preserved c =
@@ -56,9 +28,6 @@ loop-place-preserved c =
       | else-coherent+else-below w ↦
           rw w.out-is (again_open _ _ _ _ _ c.loop-place.invariant h at told w.if-coherent.false w.if-below.false)
     ]
-
-pub shape_of-out : goal.shape_of-out
-shape_of-out c = c.loop-place.invariant.lower.size
 
 pub returns : goal.returns
 returns c =

@@ -1,6 +1,5 @@
 -- `chanest::write_segment` meets its contract: each turn stores the point that the times of its carrier's pilots give.
 -- Assumes nothing.
-use Prim.Native.Nat.{◌-◌, ◌≤◌}
 use Rattle.pilot_times.specs.Window.{scattered_offsets}
 use Rattle.chanest.specs.Grid.{carrier_of, back_of}
 use Rattle.chanest.specs.Inner.{Written}
@@ -9,9 +8,5 @@ use Rattle.chanest.proofs.write_segment.Given as goal
 
 abbrev pub invariant-loop-i : goal.invariant-loop-i
 invariant-loop-i l =
-    (l.initial.i ≤ l.i) × (l.i ≤ l.to)
-    × Written (λ j. window_at l.win l.spectra l.signs (carrier_of j) (scattered_offsets l.win.current (back_of l.win.current j))) l.initial.i l.i
+    Written (λ j. window_at l.win l.spectra l.signs (carrier_of j) (scattered_offsets l.win.current (back_of l.win.current j))) l.fn.from.0 l.i
     l.initial.out l.out
-
-abbrev pub decreases-loop-i : goal.decreases-loop-i
-decreases-loop-i l = l.to - l.i

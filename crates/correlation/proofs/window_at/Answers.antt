@@ -1,16 +1,19 @@
 -- `correlation::window_at` meets its contract: each start counted adds its guard's sums, and all that are counted end within the samples.
 -- Assumes nothing.
-use Rattle.std.proofs.Common.{◌+◌, ◌*◌, arith}
+use Rattle.std.proofs.Common.{◌+◌, ◌*◌, add-mul, arith}
 use Rattle.correlation.proofs.Windows.{windowed_all, windowed_more, windowed_none}
 use Rattle.correlation.proofs.window_at.Goals as goal
 
 pub loop-s-init : goal.loop-s-init
-loop-s-init c = windowed_none c.args.sums.now c.args.ng
+loop-s-init c = (omega arith, windowed_none c.args.sums.now c.args.ng)
 
 pub loop-s-preserved : goal.loop-s-preserved
 loop-s-preserved c =
-    windowed_more c.args.sums.now c.args.ng (λ s. c.args.d + s * c.args.p) c.loop-s.s _ c.loop-s.invariant
+    let s = c.args in (
+      omega (arith, add-mul c.loop-s.s 1 s.p),
+      windowed_more s.sums.now s.ng (λ n. s.d + n * s.p) c.loop-s.s c.loop-s.a _ c.loop-s.invariant.0 c.loop-s.invariant.1,
+    )
 
 pub returns : goal.returns
 returns c =
-    windowed_all c.args.p c.args.ng c.args.len c.args.d c.requires.offset c.requires.guard c.args.sums.now _ c.loop-s.s (omega arith) c.loop-s.invariant
+    windowed_all c.args.p c.args.ng c.args.len c.args.d c.requires.offset c.requires.guard c.args.sums.now _ c.loop-s.s (omega arith) c.loop-s.invariant.1
