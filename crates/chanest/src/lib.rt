@@ -70,66 +70,60 @@ fn is_coherent(layout: FrameLayout, place: BandPlace) -> bool
     place.0 < 13 && layout.kind(ofdm::segment_at_position(place)) == SegmentKind::Coherent
 }
 
-// Writes point i, whose carrier has its pilot at the times.
-fn write_point(
-    win: Window,
-    times: Times,
-    spectra: &[f32],
-    signs: &[u8],
-    i: GridPoint,
-    out: &mut [f32],
-)
-    requires { Placed win times spectra.now signs.now i.0 out.old }
-    ensures { out.new ≡ with_pair out.old i.0 (point_by win times spectra.now signs.now i.0) }
-{
-    let k = i.carrier();
-    let number = k.0;
-    let v = pilot_line::estimate_at(win, times, spectra, k, signs[number]);
-    spectra::put_pair(out, i.0, v);
+// The spectra of a window, and the signs of the band's carriers.
+#[derive(Clone, Copy)]
+pub struct Capture<'a> {
+    pub win: Window,
+    pub spectra: &'a [f32],
+    pub signs: &'a [u8],
 }
 
-// The points of a coherent segment, from its lowest on, each by its scattered pilots.
-fn write_segment(
-    mode: Mode,
-    win: Window,
-    scattered: Scattered,
-    spectra: &[f32],
-    signs: &[u8],
-    from: GridPoint,
-    out: &mut [f32],
-)
-    requires { Writable mode win spectra.now signs.now out.old × ScatteredTimes win scattered
-        × (from.0 + segment_points mode ≤ 13 * segment_points mode) }
-    ensures { Written (scattered_at mode spectra.now win.current) from.0 (from.0 + segment_points mode)
-        out.old out.new }
-{
-    for i in from.0..from.0 + mode.carriers_per_segment() / 3 {
-        let point = GridPoint(i);
-        let times = scattered.ago[point.back(win.current)];
-        write_point(win, times, spectra, signs, point, out);
+impl<'a> Capture<'a> {
+    // Writes point i, whose carrier has its pilot at the times.
+    fn write_point(self, times: Times, i: GridPoint, out: &mut [f32])
+        requires { Placed self.win times self.spectra.now self.signs.now i.0 out.old }
+        ensures { out.new ≡ with_pair out.old i.0 (point_by self.entry.win times self.entry.spectra.now self.entry.signs.now i.0) }
+    {
+        let k = i.carrier();
+        let v = pilot_line::estimate_at(self.win, times, self.spectra, k, self.signs[k.0]);
+        spectra::put_pair(out, i.0, v);
     }
-}
 
-// The points of the band, place after place from the lowest: those of a coherent segment, and the
-// continual pilot that closes it at the lowest point of the place above, of which the edge is the last.
-fn write_points(layout: FrameLayout, win: Window, spectra: &[f32], signs: &[u8], out: &mut [f32])
-    requires { Writable layout.mode win spectra.now signs.now out.old }
-    ensures { out.new ≡ grid_of layout.mode (kind_codes layout.kinds) spectra.now win.current out.old }
-{
-    let scattered = pilot_times::scattered_times(win);
-    let continual = pilot_times::continual_times(win);
-    let mode = layout.mode;
-    let mut below = false; // whether the segment below is coherent
-    for place in 0..14 {
-        let here = BandPlace(place);
-        let lowest = lowest_point(mode, here);
-        let coherent = is_coherent(layout, here);
-        if coherent {
-            write_segment(mode, win, scattered, spectra, signs, lowest, out);
-        } else if below {
-            write_point(win, continual, spectra, signs, lowest, out);
+    // The points of a coherent segment, from its lowest on, each by its scattered pilots.
+    fn write_segment(self, mode: Mode, scattered: Scattered, from: GridPoint, out: &mut [f32])
+        requires { Writable mode self.win self.spectra.now self.signs.now out.old × ScatteredTimes self.win scattered
+            × (from.0 + segment_points mode ≤ 13 * segment_points mode) }
+        ensures { Written (scattered_at mode self.entry.spectra.now self.entry.win.current) from.0 (from.0 + segment_points mode)
+            out.old out.new }
+    {
+        for i in from.0..from.0 + mode.carriers_per_segment() / 3 {
+            let point = GridPoint(i);
+            let times = scattered.ago[point.back(self.win.current)];
+            self.write_point(times, point, out);
         }
-        below = coherent;
+    }
+
+    // The points of the band, place after place from the lowest: those of a coherent segment, and the
+    // continual pilot that closes it at the lowest point of the place above, of which the edge is the last.
+    fn write_points(self, layout: FrameLayout, out: &mut [f32])
+        requires { Writable layout.mode self.win self.spectra.now self.signs.now out.old }
+        ensures { out.new ≡ grid_of layout.mode (kind_codes layout.kinds) self.entry.spectra.now self.entry.win.current out.old }
+    {
+        let scattered = pilot_times::scattered_times(self.win);
+        let continual = pilot_times::continual_times(self.win);
+        let mode = layout.mode;
+        let mut below = false; // whether the segment below is coherent
+        for place in 0..14 {
+            let here = BandPlace(place);
+            let lowest = lowest_point(mode, here);
+            let coherent = is_coherent(layout, here);
+            if coherent {
+                self.write_segment(mode, scattered, lowest, out);
+            } else if below {
+                self.write_point(continual, lowest, out);
+            }
+            below = coherent;
+        }
     }
 }
 
@@ -166,7 +160,12 @@ fn write_grid(layout: FrameLayout, spectra: &[f32], current: Current, out: &mut 
     let k = win.len;
     let mut buffer = prbs::sign_buffer();
     prbs::band_w(mode, &mut buffer[..k]);
-    write_points(layout, win, spectra, &buffer[..k], out);
+    let capture = Capture {
+        win,
+        spectra,
+        signs: &buffer[..k],
+    };
+    capture.write_points(layout, out);
 }
 
 // The channel at the points of the grid, carriers 0, 3, 6 and so on, for the current one of a window of

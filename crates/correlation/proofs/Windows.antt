@@ -50,18 +50,20 @@ gaps_more slot sums ng from a x e =
 
 pub windowed_more : (sums : List Float) (ng : ℕ) (f : ℕ → ℕ) (s a : ℕ) (w : Window) → a ≡ f s → Windowed sums ng (up_to f s) w
     → Windowed sums ng (up_to f (s + 1)) (record {
-      re = add binary64 w.re (gap (entry reals sums) ng a);
-      im = add binary64 w.im (gap (entry imaginaries sums) ng a);
+      correlation = record {
+        re = add binary64 w.correlation.re (gap (entry reals sums) ng a);
+        im = add binary64 w.correlation.im (gap (entry imaginaries sums) ng a);
+      };
       energy = add binary64 w.energy (gap (entry energies sums) ng a);
     })
 windowed_more sums ng f s a w e h =
     rw (add-one s, ← e)
     (record {
-      re = gaps_more reals sums ng (up_to f s) a w.re h.re;
-      im = gaps_more imaginaries sums ng (up_to f s) a w.im h.im;
+      re = gaps_more reals sums ng (up_to f s) a w.correlation.re h.re;
+      im = gaps_more imaginaries sums ng (up_to f s) a w.correlation.im h.im;
       energy = gaps_more energies sums ng (up_to f s) a w.energy h.energy;
     })
 
-pub windowed_none : (sums : List Float) (ng : ℕ) → let z = plus_zero binary64 in Windowed sums ng [] (record { re = z; im = z; energy = z })
+pub windowed_none : (sums : List Float) (ng : ℕ) → let z = plus_zero binary64 in Windowed sums ng [] (record { correlation = record { re = z; im = z }; energy = z })
 unfolding total
 windowed_none sums ng = record { re = refl; im = refl; energy = refl }

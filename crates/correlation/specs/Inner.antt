@@ -47,8 +47,8 @@ abbrev pub gaps : (ℕ → ℕ) → List Float → ℕ → Float → List ℕ �
 gaps slot sums ng s from = total binary64 s (map (gap (entry slot sums) ng) from)
 
 pub record Windowed (sums : List Float) (ng : ℕ) (from : List ℕ) (w : Window) : Type 0 where
-  pub re : w.re ≡ gaps reals sums ng (plus_zero binary64) from
-  pub im : w.im ≡ gaps imaginaries sums ng (plus_zero binary64) from
+  pub re : w.correlation.re ≡ gaps reals sums ng (plus_zero binary64) from
+  pub im : w.correlation.im ≡ gaps imaginaries sums ng (plus_zero binary64) from
   pub energy : w.energy ≡ gaps energies sums ng (plus_zero binary64) from
 
 -- an offset within a symbol of p samples, and a guard within the sums

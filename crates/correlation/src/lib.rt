@@ -5,11 +5,12 @@
 ghost use Rattle.correlation.specs.Correlation.{starts};
 ghost use Rattle.correlation.specs.Inner.{Holds, Writable, Windowed, Inside};
 
+use complex::C64;
+
 // The summed correlation and energy at an offset.
 #[derive(Clone, Copy)]
 pub struct Window {
-    pub re: f64,
-    pub im: f64,
+    pub correlation: C64,
     pub energy: f64,
 }
 
@@ -62,5 +63,8 @@ pub fn window_at(sums: &[f64], ng: usize, p: usize, len: usize, d: usize) -> Win
         energy += sums[high + 2] - sums[low + 2];
         a += p;
     }
-    Window { re, im, energy }
+    Window {
+        correlation: C64::new(re, im),
+        energy,
+    }
 }

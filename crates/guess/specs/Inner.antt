@@ -5,7 +5,7 @@ use Rattle.std.specs.Float.{binary64}
 use Rattle.std.specs.Float.Ieee.{div, le}
 use Rattle.ieee.specs.Constants.{plus_zero}
 use Rattle.lists.specs.Tests.{all_in}
-use Rattle.complex.specs.Complex.{pair, norm64}
+use Rattle.complex.specs.Complex.{of64, norm64}
 use Rattle.samples_needed.specs.Samples.{is_guard, fft_of}
 use Rattle.correlation.specs.declared.Window.{Window}
 use Rattle.correlation.specs.Correlation.{pairs_in, lags_in}
@@ -16,7 +16,7 @@ use Rattle.guess.specs.Guess.{beats, tried_guard}
 -- ---- the guess that a window's sums tell
 abbrev pub guess_of : ℕ → ℕ → ℕ → Window → ModeGuess
 guess_of mode guard d w =
-    record { mode = mode; guard = guard; offset = d; metric = div binary64 (norm64 (pair w.re w.im)) w.energy; re = w.re; im = w.im }
+    record { mode = mode; guard = guard; offset = d; metric = div binary64 (norm64 (of64 w.correlation)) w.energy; re = w.correlation.re; im = w.correlation.im }
 
 -- the better of the best so far and a guess with that energy
 abbrev pub better_of : Option ModeGuess → Float → ModeGuess → Option ModeGuess

@@ -8,7 +8,6 @@ ghost use Rattle.params.specs.Params.{code_of};
 ghost use Rattle.guess.specs.Guess.{tried_mode, guessed, guess_code, Searched};
 ghost use Rattle.guess.specs.Inner.{guess_of, better_of, Tried, Triable, AllTriable};
 
-use complex::C64;
 use correlation::Window;
 use params::Refusal;
 
@@ -31,7 +30,7 @@ fn offer(best: Option<ModeGuess>, mode: u8, guard: u8, d: usize, w: Window) -> O
     if w.energy <= 0.0 {
         return best;
     }
-    let metric = C64::new(w.re, w.im).norm() / w.energy;
+    let metric = w.correlation.norm() / w.energy;
     if let Some(guess) = best {
         if !(metric > guess.metric) {
             return best;
@@ -42,8 +41,8 @@ fn offer(best: Option<ModeGuess>, mode: u8, guard: u8, d: usize, w: Window) -> O
         guard,
         offset: d,
         metric,
-        re: w.re,
-        im: w.im,
+        re: w.correlation.re,
+        im: w.correlation.im,
     })
 }
 

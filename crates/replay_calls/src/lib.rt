@@ -11,6 +11,7 @@ use std::num::f64_from_bits_with_nan;
 
 // The lists that follow the head: two of bytes (kinds, or modes and guards), and the floats, which have
 // one byte or four each. Behind them stand the wide numbers, which only the functions of floats have.
+#[derive(Clone, Copy)]
 struct Lists<'a> {
     bytes: &'a [u8],
     more_bytes: &'a [u8],
@@ -41,42 +42,51 @@ pub fn check_record(answers: &mut Answers, head: &[u8; HEAD]) -> Result<(), Cut>
 
 // The functions of floats are lent nothing, so what a head says of that has no meaning there.
 fn check_call(answers: &mut Answers, head: &[u8; HEAD], lists: Lists<'_>) -> Result<(), Cut> {
-    let Lists {
-        bytes,
-        more_bytes,
-        floats,
-        a,
-        b,
-    } = lists;
     let code = head[1];
     let call = Call::of(head);
     match Operation::try_from(head[0])? {
         Operation::CarrierBin => replay_layout::carrier_bin(answers, call?),
-        Operation::RoleMap => replay_layout::role_map(answers, call?, bytes),
+        Operation::RoleMap => replay_layout::role_map(answers, call?, lists.bytes),
         Operation::SignMap => replay_layout::sign_map(answers, call?),
-        Operation::DataList => replay_layout::data_list(answers, call?, bytes),
-        Operation::ContinualList => replay_layout::continual_list(answers, call?, bytes),
+        Operation::DataList => replay_layout::data_list(answers, call?, lists.bytes),
+        Operation::ContinualList => replay_layout::continual_list(answers, call?, lists.bytes),
         Operation::SamplesNeeded => {
-            replay_acquisition::samples_needed(answers, call?, bytes, more_bytes)
+            replay_acquisition::samples_needed(answers, call?, lists.bytes, lists.more_bytes)
         }
         Operation::DetectMode => {
-            replay_acquisition::detect_mode(answers, call?, floats, bytes, more_bytes)
+            replay_acquisition::detect_mode(
+                answers,
+                call?,
+                lists.floats,
+                lists.bytes,
+                lists.more_bytes,
+            )
         }
-        Operation::IntegerCfo => replay_acquisition::integer_cfo(answers, call?, floats),
-        Operation::DetectKinds => replay_acquisition::detect_kinds(answers, call?, floats),
-        Operation::TmccSoft => replay_acquisition::tmcc_soft(answers, call?, bytes, floats),
+        Operation::IntegerCfo => replay_acquisition::integer_cfo(answers, call?, lists.floats),
+        Operation::DetectKinds => replay_acquisition::detect_kinds(answers, call?, lists.floats),
+        Operation::TmccSoft => replay_acquisition::tmcc_soft(
+            answers,
+            call?,
+            lists.bytes,
+            lists.floats,
+        ),
         Operation::DetectSpPhase => {
-            replay_acquisition::detect_sp_phase(answers, call?, bytes, floats)
+            replay_acquisition::detect_sp_phase(answers, call?, lists.bytes, lists.floats)
         }
-        Operation::EstimateGrid => replay_grid::estimate_grid(answers, call?, bytes, floats),
-        Operation::Root => replay_floats::root(answers, code, a),
-        Operation::Narrow => replay_floats::narrow(answers, code, a),
-        Operation::Norm32 => replay_floats::norm32(answers, code, floats),
-        Operation::Norm64 => replay_floats::norm64(answers, code, a, b),
-        Operation::FrameStart => replay_acquisition::frame_start(answers, call?, floats),
-        Operation::BinRatio => replay_acquisition::bin_ratio(answers, call?, floats),
-        Operation::CarrierRole => replay_layout::carrier_role(answers, call?, bytes),
-        Operation::Angle => replay_floats::angle(answers, code, a, b),
-        Operation::CfoFrac => replay_floats::cfo_frac(answers, code, a, b),
+        Operation::EstimateGrid => replay_grid::estimate_grid(
+            answers,
+            call?,
+            lists.bytes,
+            lists.floats,
+        ),
+        Operation::Root => replay_floats::root(answers, code, lists.a),
+        Operation::Narrow => replay_floats::narrow(answers, code, lists.a),
+        Operation::Norm32 => replay_floats::norm32(answers, code, lists.floats),
+        Operation::Norm64 => replay_floats::norm64(answers, code, lists.a, lists.b),
+        Operation::FrameStart => replay_acquisition::frame_start(answers, call?, lists.floats),
+        Operation::BinRatio => replay_acquisition::bin_ratio(answers, call?, lists.floats),
+        Operation::CarrierRole => replay_layout::carrier_role(answers, call?, lists.bytes),
+        Operation::Angle => replay_floats::angle(answers, code, lists.a, lists.b),
+        Operation::CfoFrac => replay_floats::cfo_frac(answers, code, lists.a, lists.b),
     }
 }

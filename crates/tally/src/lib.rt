@@ -14,7 +14,7 @@ pub struct Tally {
 }
 
 impl Tally {
-    pub const fn new() -> Tally
+    pub fn new() -> Tally
         ensures { (result.compared ≡ 0) × (result.differ ≡ 0) }
     {
         Tally {

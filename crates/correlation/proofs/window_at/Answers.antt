@@ -1,6 +1,7 @@
 -- `correlation::window_at` meets its contract: each start counted adds its guard's sums, and all that are counted end within the samples.
 -- Assumes nothing.
-use Rattle.std.proofs.Common.{◌+◌, ◌*◌, add-mul, arith}
+use Rattle.std.proofs.Common.{◌+◌, ◌*◌, add-mul, arith, ap, ◌∙◌}
+use Rattle.complex.specs.Complex.{Pair}
 use Rattle.correlation.proofs.Windows.{windowed_all, windowed_more, windowed_none}
 use Rattle.correlation.proofs.window_at.Goals as goal
 
@@ -16,4 +17,6 @@ loop-s-preserved c =
 
 pub returns : goal.returns
 returns c =
-    windowed_all c.args.p c.args.ng c.args.len c.args.d c.requires.offset c.requires.guard c.args.sums.now _ c.loop-s.s (omega arith) c.loop-s.invariant.1
+    let s = c.args in
+    let w = windowed_all s.p s.ng s.len s.d c.requires.offset c.requires.guard s.sums.now _ c.loop-s.s (omega arith) c.loop-s.invariant.1 in
+    record { re = ap (λ (x : Pair). x.re) c.new.ensures ∙ w.re; im = ap (λ (x : Pair). x.im) c.new.ensures ∙ w.im; energy = w.energy }

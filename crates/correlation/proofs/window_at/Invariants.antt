@@ -7,4 +7,7 @@ use Rattle.correlation.proofs.window_at.Given as goal
 
 abbrev pub invariant-loop-s : goal.invariant-loop-s
 invariant-loop-s l =
-    (l.a ≡ l.d + l.s * l.p) × Windowed l.sums l.ng (up_to (λ s. l.d + s * l.p) l.s) (record { re = l.re; im = l.im; energy = l.energy })
+    (l.a ≡ l.d + l.s * l.p) × Windowed l.sums l.ng (up_to (λ s. l.d + s * l.p) l.s) (record {
+      correlation = record { re = l.re; im = l.im };
+      energy = l.energy;
+    })

@@ -1,4 +1,4 @@
--- `chanest::write_segment` meets its contract: each turn stores the point that the times of its carrier's pilots give.
+-- `chanest::Capture::write_segment` meets its contract: each turn stores the point that the times of its carrier's pilots give.
 -- Assumes nothing.
 use Prim.Native.Nat.{◌+◌}
 use mathlib.Core.Path.{◌≡◌, refl}
@@ -6,7 +6,7 @@ use native.Mathlib.Omega.{arith}
 use Rattle.chanest.specs.Grid.{carrier_of, segment_points}
 use Rattle.chanest.proofs.Writing.{together, exchanged}
 use Rattle.chanest.proofs.Points.{sent_ago, within, again, by_window, placed, stored}
-use Rattle.chanest.proofs.write_segment.Goals as goal
+use Rattle.chanest.proofs.Capture.write_segment.Goals as goal
 
 pub write_point-requires : goal.write_point-requires
 write_point-requires c =

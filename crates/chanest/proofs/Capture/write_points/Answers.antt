@@ -1,9 +1,9 @@
--- `chanest::write_points` meets its contract: the points of the places passed are written, and `below` tells whether the last one is coherent.
+-- `chanest::Capture::write_points` meets its contract: the points of the places passed are written, and `below` tells whether the last one is coherent.
 -- Assumes nothing.
 use Rattle.chanest.proofs.Points.{by_window, placed, stored}
 use Rattle.chanest.proofs.Band.{all, still, low, again_coherent, again_closed, again_open}
-use Rattle.chanest.proofs.write_points.Goals as goal
-use Rattle.chanest.proofs.write_points.Goals.{then-coherent, else-coherent+then-below, else-coherent+else-below}
+use Rattle.chanest.proofs.Capture.write_points.Goals as goal
+use Rattle.chanest.proofs.Capture.write_points.Goals.{then-coherent, else-coherent+then-below, else-coherent+else-below}
 
 pub write_point-requires : goal.write_point-requires
 write_point-requires c =

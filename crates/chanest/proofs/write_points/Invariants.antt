@@ -1,9 +1,0 @@
--- `chanest::write_points` meets its contract: the points of the places passed are written, and `below` tells whether the last one is coherent.
--- Assumes nothing.
-use Rattle.params.specs.Params.{kind_codes}
-use Rattle.chanest.proofs.Band.{WrittenTo}
-use Rattle.chanest.proofs.write_points.Given as goal
-
-abbrev pub invariant-loop-place : goal.invariant-loop-place
-invariant-loop-place l =
-    WrittenTo l.layout.mode (kind_codes l.layout.kinds) l.spectra l.win.current l.initial.out l.place l.below l.out
