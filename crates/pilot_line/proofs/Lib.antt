@@ -1,4 +1,3 @@
 -- Laws that belong to no one function.
 pub mod Summing
-pub mod Carriers
 pub mod Fitted

@@ -4,9 +4,9 @@
 
 ghost use Rattle.std.specs.Prelude.{◌≡◌, map, ◌<◌, length};
 ghost use Rattle.complex.specs.Complex.{of32};
-ghost use Rattle.pilot_times.specs.Inner.{spectra_of, Timed};
+ghost use Rattle.pilot_times.specs.Inner.{spectra_of, Inside, Timed};
 ghost use Rattle.pilot_line.specs.Line.{mean_pair, slope_sum};
-ghost use Rattle.pilot_line.specs.Estimate.{carrier_in, points_in, estimate_of, inverse_of};
+ghost use Rattle.pilot_line.specs.Estimate.{points_in, estimate_of, inverse_of};
 ghost use Rattle.pilot_line.specs.Inner.{Spanned, Fitting, value_in};
 
 use complex::C32;
@@ -27,84 +27,89 @@ fn inverse_pilot(sign: u8) -> f32
     }
 }
 
-// Carrier k of spectrum s.
-fn carrier_in(win: Window, spectra: &[f32], k: BandCarrier, s: usize) -> C32
-    requires { Spanned win (length spectra.now) × (k.0 < win.len) × (s < win.count) }
-    ensures { of32 result ≡ carrier_in win spectra.now k s }
-{
-    spectra::pair_at(spectra, s * win.len + k.0)
-}
-
-// The same with its pilot taken off.
-fn value_in(win: Window, spectra: &[f32], k: BandCarrier, s: usize, inverse: f32) -> C32
-    requires { Spanned win (length spectra.now) × (k.0 < win.len) × (s < win.count) }
-    ensures { of32 result ≡ value_in win spectra.now k inverse s }
-{
-    carrier_in(win, spectra, k, s).scale(inverse)
-}
-
-// The mean of a carrier's values.
-fn mean_value(win: Window, sent: Sent, spectra: &[f32], k: BandCarrier, inverse: f32) -> C32
-    requires { Fitting win sent k (length spectra.now) }
-    ensures { of32 result ≡ mean_pair (map (value_in win spectra.now k inverse) (spectra_of sent)) }
-{
-    let mut sum = C32::new(0.0, 0.0);
-    let mut i: usize = 0;
-    while i < sent.count {
-        sum = sum + value_in(win, spectra, k, sent.spectrum(i), inverse);
-        i += 1;
-    }
-    sum.unscale(sent.count as f32)
-}
-
-// The values' and the offsets' distances from their means, multiplied and summed.
-fn slope_sum(
+// A carrier's values in the spectra of a window, each times `inverse`, which takes its pilot off.
+#[derive(Clone, Copy)]
+struct CarrierValues<'a> {
     win: Window,
-    times: Times,
-    middle: C32,
-    spectra: &[f32],
+    spectra: &'a [f32],
     k: BandCarrier,
     inverse: f32,
-) -> C32
-    requires { Fitting win times.sent k (length spectra.now) }
-    ensures { of32 result ≡ slope_sum times.mean (of32 middle) (points_in win spectra.now k inverse (spectra_of times.sent)) }
-{
-    let mut slope = C32::new(0.0, 0.0);
-    let mut i: usize = 0;
-    while i < times.sent.count {
-        let s = times.sent.spectrum(i);
-        let v = value_in(win, spectra, k, s, inverse) - middle;
-        slope = slope + v.scale(pilot_times::offset(win, s) - times.mean);
-        i += 1;
-    }
-    slope
+    ghost spanned: { Spanned win (length spectra.now) },
+    ghost carrier: { k.0 < win.len },
 }
 
-// The least-squares line through a carrier's values at the current symbol. A single value is taken as it
-// is, and values that are not spread give their mean.
-fn ls_line_at_zero(win: Window, times: Times, spectra: &[f32], k: BandCarrier, inverse: f32) -> C32
-    requires { Fitting win times.sent k (length spectra.now) × Timed win times × (0 < times.sent.count) }
-    ensures { of32 result ≡ estimate_of win spectra.now k inverse (spectra_of times.sent) }
-{
-    if times.sent.count == 1 {
-        return value_in(win, spectra, k, times.sent.first, inverse);
+impl CarrierValues<'_> {
+    // The value in spectrum s.
+    fn value_in(&self, s: usize) -> C32
+        requires { s < self.now.win.count }
+        ensures { of32 result ≡ value_in self.now.win self.now.spectra.now self.now.k self.now.inverse s }
+    {
+        spectra::pair_at(self.spectra, s * self.win.len + self.k.0).scale(self.inverse)
     }
-    let middle = mean_value(win, times.sent, spectra, k, inverse);
-    if times.spread <= 0.0 {
-        return middle;
+
+    // The mean of the values in the spectra that have the pilot.
+    #[tactic(auto, using(crate::proofs::Summing::sum_none, crate::proofs::Summing::sum_more))]
+    fn mean(&self, sent: Sent) -> C32
+        requires { Inside self.now.win.count sent }
+        ensures { of32 result ≡ mean_pair (map (value_in self.now.win self.now.spectra.now self.now.k self.now.inverse) (spectra_of sent)) }
+    {
+        let mut sum = C32::new(0.0, 0.0);
+        for i in 0..sent.count {
+            sum = sum + self.value_in(sent.spectrum(i));
+        }
+        sum.unscale(sent.count as f32)
     }
-    let slope = slope_sum(win, times, middle, spectra, k, inverse).unscale(times.spread);
-    middle + slope.scale(0.0 - times.mean)
+
+    // The values' and the offsets' distances from their means, multiplied and summed.
+    #[tactic(auto, using(crate::proofs::Summing::sum_none, crate::proofs::Summing::sum_more, crate::proofs::Summing::term_is))]
+    fn slope_sum(&self, times: Times, middle: C32) -> C32
+        requires { Inside self.now.win.count times.sent }
+        ensures { of32 result ≡ slope_sum times.mean (of32 middle)
+            (points_in self.now.win self.now.spectra.now self.now.k self.now.inverse (spectra_of times.sent)) }
+    {
+        let mut slope = C32::new(0.0, 0.0);
+        for i in 0..times.sent.count {
+            let s = times.sent.spectrum(i);
+            let v = self.value_in(s) - middle;
+            slope = slope + v.scale(pilot_times::offset(self.win, s) - times.mean);
+        }
+        slope
+    }
+
+    // The least-squares line through the values at the current symbol. A single value is taken as it
+    // is, and values that are not spread give their mean.
+    #[tactic(auto, using(crate::proofs::Fitted::one_is, crate::proofs::Fitted::flat_is, crate::proofs::Fitted::at_zero_is))]
+    fn line_at_zero(&self, times: Times) -> C32
+        requires { Inside self.now.win.count times.sent × Timed self.now.win times × (0 < times.sent.count) }
+        ensures { of32 result ≡ estimate_of self.now.win self.now.spectra.now self.now.k self.now.inverse (spectra_of times.sent) }
+    {
+        if times.sent.count == 1 {
+            return self.value_in(times.sent.first);
+        }
+        let middle = self.mean(times.sent);
+        if times.spread <= 0.0 {
+            return middle;
+        }
+        let slope = self.slope_sum(times, middle).unscale(times.spread);
+        middle + slope.scale(0.0 - times.mean)
+    }
 }
 
 // The estimate at carrier k. Where no spectrum of the window has its pilot, the carrier is taken as the
 // current spectrum has it, its sign too.
+#[tactic(auto, using(crate::proofs::Fitted::none_is))]
 pub fn estimate_at(win: Window, times: Times, spectra: &[f32], k: BandCarrier, sign: u8) -> C32
     requires { Fitting win times.sent k (length spectra.now) × Timed win times }
     ensures { of32 result ≡ estimate_of win spectra.now k (inverse_of sign) (spectra_of times.sent) }
 {
     if times.sent.count == 0 {
-        return carrier_in(win, spectra, k, win.current.index);
+        return spectra::pair_at(spectra, win.current.index * win.len + k.0);
     }
-    ls_line_at_zero(win, times, spectra, k, inverse_pilot(sign))
+    let values = CarrierValues {
+        win,
+        spectra,
+        k,
+        inverse: inverse_pilot(sign),
+    };
+    values.line_at_zero(times)
 }

@@ -1,7 +1,6 @@
--- What the loops of `pilot_line` keep that sum over the spectra of a `Sent`: the sum so far is that of the first i. And what the sums of the
--- offsets are.
+-- What the sums of the offsets are, whose spectra a `Sent` gives.
 -- Assumes nothing.
-use Rattle.std.specs.Prelude.{ℕ, zero, suc, ◌+◌, ◌≤◌, ◌<◌, List, [], ◌∷◌, ◌++◌, map, ◌≡◌, refl, pos, length, Float, from_bits}
+use Rattle.std.specs.Prelude.{ℕ, zero, suc, ◌≤◌, List, [], ◌∷◌, ◌++◌, map, ◌≡◌, refl, pos, length, Float, from_bits}
 use Rattle.std.specs.List.{fold, range_with_len}
 use Rattle.std.proofs.lemmas.List.FromFn.{map-range_with_len_more}
 use Rattle.std.proofs.lemmas.Simd.{map-map}
@@ -17,34 +16,6 @@ use Rattle.pilot_times.specs.declared.Window.{Window}
 use Rattle.pilot_times.specs.declared.Sent.{Sent}
 use Rattle.pilot_times.specs.Window.{offset_of, mean, squared, spread}
 use Rattle.pilot_times.specs.Inner.{spectrum_of, spectra_of, Inside, sum_at, offsets_of}
-
--- ---- sums from the left: where they start, and how one value more is added
-pub record Adding (A : Type 0) : Type 0 where
-  pub sum : List A → A
-  pub start : A
-  pub plus : A → A → A
-  pub none : sum [] ≡ start
-  pub more : (xs : List A) (x : A) → sum (xs ++ (x ∷ [])) ≡ plus (sum xs) x
-
--- ---- the sum of g over the first i spectra
-pub record Summed {A : Type 0} (S : Adding A) (g : ℕ → A) (sent : Sent) (i : ℕ) (sum : A) : Type 0 where
-  pub passed : i ≤ sent.count
-  pub so_far : sum ≡ S.sum (up_to (λ j. g (spectrum_of sent j)) i)
-
-module _ {A : Type 0} (S : Adding A) (g : ℕ → A) (sent : Sent) where
-  pub begin : {sum : A} → sum ≡ S.start → Summed S g sent 0 sum
-  begin e = record { passed = omega arith; so_far = e ∙ sym S.none }
-
-  -- spectrum s gives v
-  pub further : {i s : ℕ} {sum v next : A} → Summed S g sent i sum → i < sent.count → s ≡ spectrum_of sent i → v ≡ g s → next ≡ S.plus sum v
-      → Summed S g sent (i + 1) next
-  further {i} w h at e q =
-      record { passed = omega arith; so_far = rw (add-one, S.more (up_to (λ j. g (spectrum_of sent j)) i), q, e, at, w.so_far) }
-
-  pub done : {i : ℕ} {sum : A} → Summed S g sent i sum → sent.count ≤ i → sum ≡ S.sum (map g (spectra_of sent))
-  done {i} w h =
-      let e : i ≡ sent.count = omega (arith, w.passed) in
-      (rw e at w.so_far) ∙ ap S.sum (sym (map_up_to g (spectrum_of sent) sent.count))
 
 -- how many there are
 pub how_many : {A : Type 0} (g : ℕ → A) (sent : Sent) → length (map g (spectra_of sent)) ≡ sent.count

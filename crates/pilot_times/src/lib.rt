@@ -20,6 +20,7 @@ pub struct Current {
 }
 
 // `count` spectra of `len` carriers, and the current one among them.
+// No ghost field says that it is among them: `offset` takes any window, and its type would ask more.
 #[derive(Clone, Copy)]
 pub struct Window {
     pub len: usize,
@@ -37,6 +38,7 @@ pub struct Offsets {
 }
 
 // The spectra in which a carrier's pilot is sent: `count` of them from `first` on, `step` apart.
+// No ghost field bounds them: `spectrum` asks for 1,024, the estimate in `pilot_line` for its window.
 #[derive(Clone, Copy)]
 pub struct Sent {
     pub first: usize,
