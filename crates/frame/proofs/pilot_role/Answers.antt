@@ -1,8 +1,8 @@
--- `frame::pilot_byte` meets its contract: the kind's rule decides, and the constant is the role's byte.
+-- `frame::pilot_role` meets its contract: the kind's rule decides.
 -- Assumes nothing.
 use mathlib.Core.Path.{◌∙◌, sym}
 use borrow.Author.Tests.{eq-eqb, ne_eqb}
-use Rattle.frame.proofs.pilot_byte.Goals as goal
+use Rattle.frame.proofs.pilot_role.Goals as goal
 
 pub returns-then-is_sp : goal.returns-then-is_sp
 returns-then-is_sp c = rw (c.in-Coherent.is, sym c.is_sp.ensures ∙ c.if-is_sp.true)
