@@ -96,20 +96,9 @@ fn pilot_role(kind: SegmentKind, phase: u8, p: SegmentPlace) -> CarrierRole
     ensures { result ≡ pilot_role kind phase p.0 }
 {
     match kind {
-        SegmentKind::Coherent => {
-            if is_sp(p, phase) {
-                CarrierRole::Sp
-            } else {
-                CarrierRole::Data
-            }
-        }
-        SegmentKind::Differential => {
-            if p.0 == 0 {
-                CarrierRole::Cp
-            } else {
-                CarrierRole::Data
-            }
-        }
+        SegmentKind::Coherent if is_sp(p, phase) => CarrierRole::Sp,
+        SegmentKind::Differential if p.0 == 0 => CarrierRole::Cp,
+        _ => CarrierRole::Data,
     }
 }
 
