@@ -1,20 +1,17 @@
 -- What a buffer that holds a band's roles gives to the lists made from it.
 -- Assumes nothing.
 use Rattle.std.proofs.Common.{Option, Some, None, Result, Err}
-use Prim.Native.Nat.{ℕ, ◌*◌, ◌≤◌, ◌<◌}
+use Prim.Native.Nat.{ℕ, ◌*◌, ◌<◌}
 use mathlib.Core.Bool.{Bool, true, false}
 use mathlib.Core.List.{List, [], ◌∷◌, ◌++◌}
-use mathlib.Core.Path.{◌≡◌, refl, sym, ap, subst, ◌∙◌}
-use native.Mathlib.Omega.{arith}
+use mathlib.Core.Path.{◌≡◌, refl, sym, ap, ◌∙◌}
 use lib.Dec.{leb}
-use lib.ListN.{length, take, drop, length-append, length-drop}
-use lib.Seq.{take_at}
+use lib.ListN.{length, take, drop}
 use Rattle.lists.specs.Lists.{range, joined, chosen}
 use Rattle.lists.specs.Fill.{joined_map, joined_same, part_of}
 use Rattle.params.specs.declared.Mode.{Mode}
 use Rattle.params.specs.Params.{carriers_per_segment, data_carriers_per_segment, total_carriers, kind_codes}
-use Rattle.params.specs.Laws.{sized}
-use Rattle.ofdm.specs.Band.{order, place_of, first_carrier, ZeroBand}
+use Rattle.ofdm.specs.Band.{order, place_of, first_carrier}
 use Rattle.ofdm.specs.Laws.{place_below, segment_of_place}
 use Rattle.frame.specs.declared.CarrierRole.TheVariants.{EdgeCp}
 use Rattle.params.specs.declared.Refusal.{Refusal}
@@ -39,15 +36,6 @@ module _ (mode : Mode) (phase : ℕ) (kinds : List ℕ) where
   pub roles_length : length roles ≡ total_carriers mode
   roles_length = band_length mode phase (wide kinds) ∙ wide_size mode kinds
 
-  -- the buffer's first entries written, with what lies behind them
-  pub written_front : (front buffer : List ℕ) (k : ℕ) → k ≡ total_carriers mode → ZeroBand buffer → front ≡ roles
-      → BandBuffer mode roles (front ++ drop k buffer)
-  written_front front buffer k e z w =
-      record {
-        size = rw (length-append front (drop k buffer), length-drop k buffer, w, roles_length) (omega (arith, z.size, (sized mode).band_high));
-        front = rw w (take_at roles (drop k buffer) (total_carriers mode) roles_length);
-      }
-
   -- a segment's part of the band
   segment_part : (seg : ℕ) → seg < 13 → take (carriers_per_segment mode) (drop (first_carrier mode (place_of seg)) roles) ≡ of_segment_lem seg
   unfolding band_roles
@@ -66,9 +54,6 @@ module _ (mode : Mode) (phase : ℕ) (kinds : List ℕ) where
       (λ seg h. ap (chosen is_data (first_carrier mode (place_of seg))) (segment_part seg h))
 
   module _ (buffer : List ℕ) (b : BandBuffer mode roles buffer) (k : ℕ) (e : k ≡ total_carriers mode) where
-    pub buffer_room : k ≤ length buffer
-    buffer_room = omega (arith, b.size, (sized mode).band_high)
-
     pub buffer_front : take k buffer ≡ roles
     buffer_front = rw e b.front
 
@@ -86,9 +71,6 @@ module _ (mode : Mode) (phase : ℕ) (kinds : List ℕ) where
 
     pub data_stored : (out' : List ℕ) → out' ≡ joined (data_in mode (take k buffer)) (range 13) → out' ≡ data_list mode phase kinds
     data_stored out' w = w ∙ (ap (λ (z : List ℕ). joined (data_in mode z) (range 13)) buffer_front ∙ same_data)
-
-    pub continual_of_lem : (out : List ℕ) (r : Result ℕ Refusal) (out' : List ℕ) → Continual (take k buffer) out r out' → Continual roles out r out'
-    continual_of_lem out r out' w = subst (λ (z : List ℕ). Continual z out r out') buffer_front w
 
 -- the continual list of a layout that was refused, or accepted
 module _ (kinds out : List ℕ) where

@@ -2,7 +2,7 @@
 -- Assumes nothing.
 use Prim.Native.Nat.{ℕ, zero, suc, ◌+◌, ◌-◌, ◌≤◌, ◌<◌}
 use mathlib.Core.List.{List, [], ◌∷◌, ◌++◌, append_assoc}
-use mathlib.Core.Path.{◌≡◌, refl, sym, ap, ◌∙◌}
+use mathlib.Core.Path.{◌≡◌, sym, ap, ◌∙◌}
 use native.Mathlib.Numerals.{add-one}
 use native.Mathlib.Omega.{arith}
 use native.Mathlib.Decide.{dec_lt}
@@ -20,7 +20,7 @@ use Rattle.std.proofs.Common.{Ok, Err, count_by}
 use Rattle.params.specs.declared.Refusal.TheVariants.{WrongLength}
 use Rattle.frame.specs.Roles.{is_data, is_tmcc, is_ac, is_cp_byte}
 use Rattle.carrier_lists.specs.CarrierLists.{continual_in, stored_first}
-use Rattle.carrier_lists.specs.ContinualCount.{is_continual, groups_counted, continual_count}
+use Rattle.carrier_lists.specs.ContinualCount.{is_continual, continual_count}
 use Rattle.carrier_lists.proofs.Collecting.{chosen_counted}
 use Rattle.carrier_lists.specs.Inner.{Room, Collected, DataRoom, data_in, ContinualRoom, Continual}
 
@@ -42,9 +42,6 @@ module _ (mode : Mode) (roles old : List ℕ) where
     pub passed : seg ≤ 13
     pub stored : out ≡ sets old 0 (joined (data_in mode roles) (range seg))
     pub next : at ≡ length (joined (data_in mode roles) (range seg))
-
-  pub data_begin : (c : ℕ) → c ≡ carriers_per_segment mode → DataRoom mode roles old → DataTo c 0 0 old
-  data_begin c e r = record { carriers = e; room = r; passed = omega arith; stored = refl; next = refl }
 
   module _ (c seg at : ℕ) (out : List ℕ) (w : DataTo c seg at out) where
     abbrev before : List ℕ
@@ -139,16 +136,7 @@ module _ (roles : List ℕ) where
 
   -- what the code stores, group after group
   module _ (old : List ℕ) (r : ContinualRoom roles old) where
-    sizes : length tmcc + length ac + length cp + 1 ≤ length old
-    sizes = omega (arith, groups_counted 0 roles, continual_count roles, r.fits)
-
-    pub tmcc_room : Room roles 3 3 0 old 0
-    tmcc_room = record { fits = omega (arith, sizes); small = omega (arith, r.few) }
-
     module _ (n1 : ℕ) (out1 : List ℕ) (k1 : Collected roles 3 3 0 old 0 n1 out1) where
-      pub ac_room : Room roles 4 5 0 out1 n1
-      ac_room = record { fits = rw (k1.stored, length-sets old 0 tmcc, k1.next) (omega (arith, sizes)); small = omega (arith, r.few) }
-
       module _ (n2 : ℕ) (out2 : List ℕ) (k2 : Collected roles 4 5 0 out1 n1 n2 out2) where
         two : out2 ≡ sets old 0 (tmcc ++ ac)
         two = k2.stored ∙ (rw (k1.stored, k1.next) (sets_append tmcc ac old 0))
@@ -156,25 +144,12 @@ module _ (roles : List ℕ) where
         at_two : n2 ≡ 0 + length (tmcc ++ ac)
         at_two = k2.next ∙ (rw (k1.next, length-append tmcc ac) (omega arith))
 
-        pub cp_room : Room roles 2 2 0 out2 n2
-        cp_room =
-            record {
-              fits = rw (two, length-sets old 0 (tmcc ++ ac), at_two, length-append tmcc ac) (omega (arith, sizes));
-              small = omega (arith, r.few);
-            }
-
         module _ (n3 : ℕ) (out3 : List ℕ) (k3 : Collected roles 2 2 0 out2 n2 n3 out3) where
           three : out3 ≡ sets old 0 ((tmcc ++ ac) ++ cp)
           three = k3.stored ∙ (rw (two, at_two) (sets_append (tmcc ++ ac) cp old 0))
 
           at_three : n3 ≡ 0 + length ((tmcc ++ ac) ++ cp)
           at_three = k3.next ∙ (rw (at_two, length-append (tmcc ++ ac) cp) (omega arith))
-
-          pub three_size : length out3 ≡ length old
-          three_size = ap length three ∙ length-sets old 0 ((tmcc ++ ac) ++ cp)
-
-          pub edge_room : n3 < length out3
-          edge_room = rw (three_size, at_three, length-append (tmcc ++ ac) cp, length-append tmcc ac) (omega (arith, sizes))
 
           pub continual_stored : (edge : ℕ) → edge ≡ length roles - 1 → set out3 n3 edge ≡ stored_first (continual_in roles) old
           continual_stored edge e =

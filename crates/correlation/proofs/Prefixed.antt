@@ -11,7 +11,7 @@ use Rattle.lists.specs.Select.{length_up_to, get_or_up_to}
 use Rattle.complex.specs.Complex.{Pair, product, conjugate, squared_size}
 use Rattle.spectra.specs.Spectra.{pair_at}
 use Rattle.correlation.specs.Correlation.{lags_in, lag_product, lag_energy, real_prefixes, imaginary_prefixes, energy_prefixes}
-use Rattle.correlation.specs.Inner.{reals, imaginaries, energies, entry, Written, Holds}
+use Rattle.correlation.specs.Inner.{reals, imaginaries, energies, entry}
 
 -- ---- a prefix sum: the first, and each from the one before it
 first_prefix : (f : Format) (s : Float) (xs : List Float) → get_or (prefixes f s xs) 0 nan ≡ s
@@ -141,13 +141,6 @@ again n xs i sums a b c p e h room f g w =
       energy = track_next energies _ _ _ sums new i c e (energy_sums n xs) h g (λ j l. old (energies j) (omega arith))
           (put_energy sums k re im energy room) w.energy;
     }
-
--- and ends with all sums in the scratch
-pub done : (n : ℕ) (xs : List Float) (i : ℕ) (sums : List Float) (a b c : Float) → i ≡ lags_in n xs → Writing n xs i sums a b c → Holds n xs sums
-done n xs i sums a b c e w = rw e at (written w)
-  where
-    written : Writing n xs i sums a b c → Written n xs i sums
-    written w = record { re = w.re.held; im = w.im.held; energy = w.energy.held }
 
 -- ---- a sample's product and energy, by the steps that make them
 module _ (n : ℕ) (xs : List Float) (i : ℕ) (a b : Pair) (f : a ≡ pair_at xs i) (g : b ≡ pair_at xs (i + n)) where

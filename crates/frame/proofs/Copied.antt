@@ -3,7 +3,7 @@
 use Prim.Native.Nat.{ℕ, ◌+◌, ◌<◌, ◌≤◌}
 use mathlib.Core.Bool.{true, false}
 use mathlib.Core.List.{List, [], ◌∷◌, ◌++◌, map}
-use mathlib.Core.Path.{◌≡◌, refl, sym, ap, ◌∙◌}
+use mathlib.Core.Path.{◌≡◌, sym, ap, ◌∙◌}
 use native.Mathlib.Numerals.{add-one}
 use native.Mathlib.Omega.{arith}
 use borrow.Author.Tests.{eq-eqb, ne_eqb, le-leb, lt-leb}
@@ -31,9 +31,6 @@ module _ (kinds : List ℕ) where
     pub size : length read ≡ 13
     pub front : take i (kind_codes read) ≡ take i kinds
     pub rest : all_in (λ k. leb k 1) kinds ≡ all_in (λ k. leb k 1) (drop i kinds)
-
-  pub none_read : length kinds ≡ 13 → (read : List SegmentKind) → length read ≡ 13 → Reading 0 read
-  none_read h read s = record { all = h; size = s; front = refl; rest = refl }
 
   module _ (i : ℕ) (read : List SegmentKind) (r : Reading i read) (h : i < 13) where
     pub one_more : (kind : SegmentKind) → get_or kinds i 0 ≡ kind_code kind → Reading (i + 1) (set read i kind)

@@ -9,12 +9,16 @@ use Rattle.params.specs.declared.SegmentKind.{SegmentKind}
 use Rattle.params.specs.Params.{kind_codes}
 use Rattle.tables.specs.Places.{is_sp, is_cp}
 use Rattle.frame.specs.declared.FrameLayout.{FrameLayout}
+use Rattle.frame.specs.declared.CarrierRole.{CarrierRole}
 use Rattle.frame.specs.Roles.{role_byte, first_claim}
 use Rattle.frame.specs.Operations.{are_kinds}
 
--- the role byte of a place as far as pilots decide it
+-- the role of a place as far as pilots decide it, and its byte
+abbrev pub pilot_role : SegmentKind → ℕ → ℕ → CarrierRole
+pilot_role kind phase p = first_claim (is_sp kind phase p) (is_cp kind p) false false false
+
 abbrev pub pilot_byte : SegmentKind → ℕ → ℕ → ℕ
-pilot_byte kind phase p = role_byte (first_claim (is_sp kind phase p) (is_cp kind p) false false false)
+pilot_byte kind phase p = role_byte (pilot_role kind phase p)
 
 -- out with role at each of the places
 unfoldable pub marked : List ℕ → ℕ → List ℕ → List ℕ

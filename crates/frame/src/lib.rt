@@ -13,13 +13,13 @@ ghost use Rattle.params.specs.Params.{mode_from, carriers_per_segment, total_car
 ghost use Rattle.params.specs.declared.SegmentKind.TheVariants.{Coherent};
 ghost use Rattle.tables.specs.Places.{is_sp};
 ghost use Rattle.frame.specs.Roles.{role_byte, ofdm_segment, segment_roles, band_roles, wide, between};
-ghost use Rattle.frame.specs.Inner.{pilot_byte, marked, Markable, KindsTold, LayoutTold};
+ghost use Rattle.frame.specs.Inner.{pilot_role, pilot_byte, marked, Markable, KindsTold, LayoutTold};
 ghost use Rattle.frame.specs.Operations.{RoleMap};
 
 use ofdm::{BandPlace, Segment, SegmentPlace};
 use params::{Mode, Phase, Refusal, SegmentKind};
 
-// Role bytes.
+// Role bytes. They have names beside the roles, since `carrier_lists` asks for those from one to another.
 pub const DATA: u8 = 0;
 
 pub const SP: u8 = 1;
@@ -91,13 +91,14 @@ pub fn is_between(low: u8, high: u8, b: u8) -> bool
     b <= high
 }
 
-// The role byte of a place so far as pilots decide it: the rest is data until the tables are marked.
-fn pilot_byte(kind: SegmentKind, phase: u8, p: SegmentPlace) -> u8
-    ensures { result ≡ pilot_byte kind phase p.0 }
+// The role of a place so far as pilots decide it: the rest is data until the tables are marked.
+fn pilot_role(kind: SegmentKind, phase: u8, p: SegmentPlace) -> CarrierRole
+    ensures { result ≡ pilot_role kind phase p.0 }
 {
     match kind {
-        SegmentKind::Coherent => { if is_sp(p, phase) { SP } else { DATA } }
-        SegmentKind::Differential => { if p.0 == 0 { CP } else { DATA } }
+        SegmentKind::Coherent if is_sp(p, phase) => CarrierRole::Sp,
+        SegmentKind::Differential if p.0 == 0 => CarrierRole::Cp,
+        _ => CarrierRole::Data,
     }
 }
 
@@ -106,17 +107,18 @@ fn write_pilots(kind: SegmentKind, phase: u8, out: &mut [u8])
     ensures { out.new ≡ up_to (pilot_byte kind phase) (length out.old) }
 {
     for p in 0..out.len() {
-        out[p] = pilot_byte(kind, phase, SegmentPlace(p));
+        out[p] = u8::from(pilot_role(kind, phase, SegmentPlace(p)));
     }
 }
 
 // Gives the places of a table's row a role.
-fn mark(row: &[u16], role: u8, out: &mut [u8])
+fn mark(row: &[u16], role: CarrierRole, out: &mut [u8])
     requires { Markable row.now out.old }
-    ensures { out.new ≡ marked row.now role out.old }
+    ensures { out.new ≡ marked row.now (role_byte role) out.old }
 {
+    let byte = u8::from(role);
     for place in row {
-        out[*place as usize] = role;
+        out[*place as usize] = byte;
     }
 }
 
@@ -127,9 +129,21 @@ pub fn segment_roles(mode: Mode, seg: Segment, kind: SegmentKind, phase: Phase, 
     ensures { out.new ≡ segment_roles mode phase.number (ofdm_segment seg.number kind) }
 {
     write_pilots(kind, phase.number, out);
-    mark(tables::tmcc_positions(mode, kind, seg), TMCC, out);
-    mark(tables::ac1_positions(mode, kind, seg), AC1, out);
-    mark(tables::ac2_positions(mode, kind, seg), AC2, out);
+    mark(
+        tables::tmcc_positions(mode, kind, seg),
+        CarrierRole::Tmcc,
+        out,
+    );
+    mark(
+        tables::ac1_positions(mode, kind, seg),
+        CarrierRole::Ac(AcKind::Ac1),
+        out,
+    );
+    mark(
+        tables::ac2_positions(mode, kind, seg),
+        CarrierRole::Ac(AcKind::Ac2),
+        out,
+    );
 }
 
 // A layout that was accepted: its mode, and the kind of each segment, by segment number.
@@ -185,7 +199,7 @@ impl FrameLayout {
             segment_roles(mode, seg, self.kind(seg), phase, &mut out[from..to]);
         }
         let edge = ofdm::first_carrier(mode, BandPlace(13)).0;
-        out[edge] = EDGE_CP;
+        out[edge] = u8::from(CarrierRole::EdgeCp);
     }
 }
 

@@ -9,14 +9,12 @@ use mir.Val.{Fits}
 use Rattle.pilot_times.specs.declared.Window.{Window}
 use Rattle.pilot_times.specs.declared.Offsets.{Offsets}
 use Rattle.pilot_times.specs.declared.Sent.{Sent}
-use Rattle.pilot_times.specs.Window.{scattered_offsets, continual_offsets}
-use Rattle.pilot_times.specs.Inner.{Usable, Searchable, Skipped, Reached}
+use Rattle.pilot_times.specs.Inner.{Searchable, Skipped, Reached}
 use Rattle.pilot_times.specs.Reaching.{Met, window}
 
 pub room_fits : (x step : ℕ) → x < 1024 → Fits w64 (x / step + 1)
 room_fits x step h = omega (arith, div-le_self x step)
 
--- ---- the others
 abbrev sent_from : ℕ → ℕ → ℕ → Sent
 sent_from first step m = record { first = first; step = step; count = m }
 
@@ -71,18 +69,3 @@ module _ (win : Window) (o : Offsets) (h : Searchable win o) where
           behind = λ i p q. let z : s + (x / step + 1) ≤ i = omega arith in omega (arith, mul-le-mul_left step z, k.covered);
         })
         (omega (arith, div-le_self x step)) (omega arith)
-
--- ---- the offsets of an accepted call can be looked for
-module _ (win : Window) (h : Usable win) where
-  searchable : (o : Offsets) → 0 < o.step → o.step ≤ 4 → o.before ≤ 512 → o.count ≤ 512 → Searchable win o
-  searchable o f n e c = record { current = h.current; few = h.few; forward = f; near = n; early = e; short = c }
-
-  pub scattered_searchable : {back : ℕ} {o : Offsets} → back < 4 → o ≡ scattered_offsets win.current back → Searchable win o
-  scattered_searchable {back} l e =
-      let most = h.counted.short in
-      rw e (searchable (scattered_offsets win.current back) (omega arith) (omega arith) (omega arith) (omega arith))
-
-  pub continual_searchable : {o : Offsets} → o ≡ continual_offsets win.current → Searchable win o
-  continual_searchable e =
-      let most = h.counted.short in
-      rw e (searchable (continual_offsets win.current) (omega arith) (omega arith) (omega arith) (omega arith))

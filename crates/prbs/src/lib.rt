@@ -45,6 +45,7 @@ impl Prbs {
         ensures { Step self.old.bits result self.new.bits }
     {
         let d = self.bits;
+        // Not `^`, which would give more than a bit where the register holds other bytes than 0 and 1.
         let feedback = u8::from(d[8] != d[10]);
         self.bits = [
             feedback, d[0], d[1], d[2], d[3], d[4], d[5], d[6], d[7], d[8], d[9],

@@ -1,6 +1,6 @@
 -- Letters that are read while they are tested: the kinds read are the front's, and the front's letters are good.
 -- Assumes nothing.
-use Rattle.std.specs.Prelude.{ℕ, ◌+◌, ◌-◌, ◌<◌, true, List, ◌≡◌, refl, map, length, get_or, take, set}
+use Rattle.std.specs.Prelude.{ℕ, ◌+◌, ◌-◌, ◌<◌, true, List, ◌≡◌, map, length, get_or, take, set}
 use Rattle.std.proofs.Common.{arith, sym, ap, ◌∙◌, length-set, take_all}
 use Rattle.std.proofs.lemmas.List.{length-map, map-set, map_more, take_more_set}
 use Rattle.std.proofs.lemmas.List.Folds.{list_all_more}
@@ -21,9 +21,6 @@ pub record Read (letters : List ℕ) (i : ℕ) (kinds : List SegmentKind) : Type
   pub good : list_all is_kind_letter (take i letters) ≡ true
 
 module _ (letters : List ℕ) (all : length letters ≡ 13) where
-  pub none_read : (kinds : List SegmentKind) → length kinds ≡ 13 → Read letters 0 kinds
-  none_read kinds s = record { size = s; front = refl; good = refl }
-
   pub one_more : (i : ℕ) (kinds : List SegmentKind) (kind : SegmentKind) → Read letters i kinds → i < 13 → get_or letters i 0 ≡ 67 + kind_code kind
       → Read letters (i + 1) (set kinds i kind)
   unfolding kind_codes

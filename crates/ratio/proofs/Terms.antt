@@ -1,15 +1,16 @@
 -- Sums of products, term by term: one more, several more, and all of them are a bin's.
 -- Assumes nothing.
-use Prim.Native.Nat.{ℕ, suc, ◌+◌, ◌*◌, ◌<◌}
-use mathlib.Core.List.{List, [], ◌∷◌}
+use Prim.Native.Nat.{ℕ, suc, ◌+◌, ◌*◌, ◌<◌, ◌≤◌}
+use mathlib.Core.List.{List, [], ◌∷◌, ◌++◌}
 use mathlib.Core.Path.{◌≡◌, refl, sym, ap, ◌∙◌}
 use native.Mathlib.Decide.{dec_lt}
 use native.Mathlib.Nat.{zero-add}
 use native.Mathlib.Numerals.{add-one}
 use native.Mathlib.Omega.{arith}
 use lib.Ieee.{Float, nan, binary32, add}
-use lib.ListN.{get_or, length, set}
-use lib.Seq.{ext_get_or, get_or-set_same, get_or-set_other}
+use lib.ListN.{get_or, length, set, take, drop}
+use Rattle.std.proofs.lemmas.List.{length-take-le, take-append-le}
+use lib.Seq.{take_all, ext_get_or, get_or-set_same, get_or-set_other}
 use Rattle.ieee.specs.Sums.{total, total_append}
 use Rattle.lists.specs.Lists.{up_to}
 use Rattle.lists.specs.Select.{length_up_to, get_or_up_to, up_to_same, up_to_add, map_up_to}
@@ -67,7 +68,7 @@ sum_step xs k s r x y e g h t =
       den = t.den ∙ total_last _ _ k _ _ h.den (ap size_of own);
     }
 
-pub sum_terms : (xs : List Float) (k n : ℕ) (squares sizes : List Float) (s r : BinSums)
+sum_terms : (xs : List Float) (k n : ℕ) (squares sizes : List Float) (s r : BinSums)
     → SummedTo xs k s → TermsPut xs k n squares sizes → TermsAdded s squares sizes n r → SummedTo xs (k + n) r
 sum_terms xs k n squares sizes s r h p t =
     let square : ℕ → Pair = λ i. square_of (step_at xs i) in
@@ -82,6 +83,23 @@ sum_terms xs k n squares sizes s r h p t =
           ∙ (λ i. total binary32 (h.den i) (up_to_same (λ j. get_or sizes j nan) (λ j. size (k + j)) n p.sized i))
           ∙ sym (ap (total binary32 _) (up_to_add size k n) ∙ total_append binary32 _ (up_to size k) (up_to (λ j. size (k + j)) n));
     }
+
+-- what was put in front of a list is what is read of it
+front_of : {A : Type 0} (m : ℕ) (xs old new : List A) → m ≤ length old → length new ≡ length (take m old) → xs ≡ take m (new ++ drop m old) → xs ≡ new
+front_of m xs old new l e h =
+    let same : length new ≡ m = e ∙ length-take-le m old l in
+    h ∙ take-append-le m new (drop m old) (omega arith) ∙ take_all m new (omega arith)
+
+pub sum_front : (xs : List Float) (k m n : ℕ) (squares sizes squares' sizes' : List Float) (s r : BinSums)
+    → k + m ≡ n → 2 * m ≤ length squares → m ≤ length sizes → length squares' ≡ length (take (2 * m) squares) → length sizes' ≡ length (take m sizes)
+    → SummedTo xs k s → TermsPut xs k (length (take m sizes)) squares' sizes'
+    → TermsAdded s (take (2 * m) (squares' ++ drop (2 * m) squares)) (take m (sizes' ++ drop m sizes)) (length (take m (sizes' ++ drop m sizes))) r
+    → SummedTo xs n r
+sum_front xs k m n squares sizes squares' sizes' s r q a b e g h p t =
+    let count : length (take m sizes) ≡ m = length-take-le m sizes b in
+    let f = front_of (2 * m) _ squares squares' a e refl in
+    let i = front_of m _ sizes sizes' b g refl in
+    rw q at (sum_terms xs k m squares' sizes' s r h (rw count at p) (rw (f, i, g, count) at t))
 
 -- ---- all products of a bin
 pub steps_of : (xs : List Float) (n : ℕ) → steps (column xs 1 0 (suc n)) ≡ up_to (step_at xs) n

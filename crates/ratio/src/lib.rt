@@ -45,16 +45,16 @@ impl BinSums {
         }
     }
 
-    // The first n squares and squared sizes more, in their order.
-    fn add_terms(self, squares: &[f32], sizes: &[f32], n: usize) -> BinSums
-        requires { (2 * n ≤ length squares.now) × (n ≤ length sizes.now) }
-        ensures { TermsAdded self squares.now sizes.now n result }
+    // The squares and squared sizes of some products more, in their order.
+    fn add_terms(self, squares: &[f32], sizes: &[f32]) -> BinSums
+        requires { 2 * length sizes.now ≤ length squares.now }
+        ensures { TermsAdded self squares.now sizes.now (length sizes.now) result }
     {
         let mut num = self.num;
         let mut den = self.den;
-        for i in 0..n {
+        for (i, size) in sizes.iter().enumerate() {
             num = num + spectra::pair_at(squares, i);
-            den = den + sizes[i];
+            den = den + *size;
         }
         BinSums { num, den }
     }
@@ -71,13 +71,14 @@ impl BinSums {
     }
 }
 
-// Stores the squares and the squared sizes of n products, the first of them of pair `from` and the one
-// behind it. No product waits for another, so the compiler works on four at once; sums would wait.
-fn put_terms(pairs: &[f32], from: usize, n: usize, squares: &mut [f32], sizes: &mut [f32])
-    requires { (2 * (from + n + 1) ≤ length pairs.now) × (2 * n ≤ length squares.old) × (n ≤ length sizes.old) }
-    ensures { TermsPut pairs.now from n squares.new sizes.new }
+// Stores the squares and the squared sizes of as many products as there is room for, the first of them of
+// pair `from` and the one behind it. No product waits for another, so the compiler works on four at once;
+// sums would wait.
+fn put_terms(pairs: &[f32], from: usize, squares: &mut [f32], sizes: &mut [f32])
+    requires { (2 * (from + length sizes.old + 1) ≤ length pairs.now) × (2 * length sizes.old ≤ length squares.old) }
+    ensures { TermsPut pairs.now from (length sizes.old) squares.new sizes.new }
 {
-    for i in 0..n {
+    for i in 0..sizes.len() {
         let y = spectra::pair_at(pairs, from + i);
         let x = spectra::pair_at(pairs, from + i + 1);
         let p = x * y.conj();
@@ -97,8 +98,8 @@ fn front_sums(pairs: &[f32], n: usize) -> BinSums
     let mut sums = BinSums::zero();
     for from in (0..n).step_by(16) {
         let m = (n - from).min(16);
-        put_terms(pairs, from, m, &mut squares, &mut sizes);
-        sums = sums.add_terms(&squares, &sizes, m);
+        put_terms(pairs, from, &mut squares[..2 * m], &mut sizes[..m]);
+        sums = sums.add_terms(&squares[..2 * m], &sizes[..m]);
     }
     sums
 }
@@ -173,6 +174,7 @@ fn spread_two(spectra: &[f32], at: usize, next: usize, bins: BinBlock, t: usize,
 
 // Copies the pairs of some bins of spectra of `len` pairs. Eight pairs lie in a line of the cache: so a
 // line of the spectra is fetched once or, where two copies share it, twice, and not for each of its bins.
+#[tactic(auto, using(crate::proofs::Slots::gather_last))]
 fn gather(spectra: &[f32], len: usize, bins: BinBlock, block: &mut [f32])
     requires { Gatherable len bins (length spectra.now) (length block.old) }
     ensures { Gathered spectra.now len bins bins.count block.new }

@@ -1,13 +1,12 @@
--- The arithmetic of one step of the root by halves: what keeps each number within a word, that the step gives a root and its remainder again,
--- and that four steps make a whole root.
+-- The arithmetic of one step of the root by halves: what keeps each number within a word, and that the step gives a root and its remainder again.
 -- Assumes nothing.
 use mathlib.Core.Path.{◌≡◌, sym, ap, ◌∙◌, subst}
 use Prim.Native.Nat.{ℕ, zero, suc, ◌+◌, ◌-◌, ◌*◌, ◌/◌, ◌%◌, ◌≤◌, ◌<◌}
-use native.Mathlib.Nat.{le_trans, le_of_eq, le_of_suc-le-suc, mul_comm, mul_assoc, mul_left_comm, mul-mul-mul_comm, add_assoc, mul-add, add-mul, suc-mul}
-use native.Mathlib.Nat.{mul-le-mul, mul-le-mul_right, le-mul_of_pos_right, div-one, div-div-eq-div-mul, div-add-mod', mod-lt, div-lt_iff_lt-mul}
+use native.Mathlib.Nat.{le_trans, le_of_eq, le_of_suc-le-suc, mul_comm, mul_assoc, mul_left_comm, mul-mul-mul_comm, mul-add, add-mul, suc-mul}
+use native.Mathlib.Nat.{mul-le-mul, mul-le-mul_right, le-mul_of_pos_right, mod-lt, div-lt_iff_lt-mul}
 use native.Mathlib.Omega.{arith}
 use Rattle.ieee.specs.Numbers.{le_multiple}
-use Rattle.root.specs.Inner.{Ready, Refined, Rooted}
+use Rattle.root.specs.Inner.{Ready, Refined}
 
 -- the bounds that keep every step of the code within a word
 pub record Bounds (s r b q u : ℕ) : Type 0 where
@@ -91,45 +90,3 @@ refined_less s r b hi lo h q u e f g =
     let pr = pred_square (s * b + q) P in
     let Q : 0 < q = root_pos _ q g in
     record { whole = omega arith; rem = omega arith; low = omega arith; high = omega arith }
-
--- a number's digits to the base b * b, two to the base b at a time
-digits : (a w b : ℕ) → a / (w * (b * b)) * (b * b) + (a / (w * b) % b * b + a / w % b) ≡ a / w
-digits a w b =
-    let y = a / w in
-    let z = y / b in
-    let e : a / (w * b) ≡ z = sym (div-div-eq-div-mul a w b) in
-    let f : a / (w * (b * b)) ≡ z / b = ap (λ (x : ℕ). a / x) (sym (mul_assoc w b b)) ∙ sym (div-div-eq-div-mul a (w * b) b) ∙ ap (λ (x : ℕ). x / b) e in
-    ap (λ (x : ℕ). x * (b * b) + (a / (w * b) % b * b + y % b)) f
-    ∙ ap (λ (x : ℕ). z / b * (b * b) + (x % b * b + y % b)) e
-    ∙ sym (add_assoc (z / b * (b * b)) (z % b * b) (y % b))
-    ∙ ap (λ (x : ℕ). x + z % b * b + y % b) (sym (mul_assoc (z / b) b b))
-    ∙ ap (λ (x : ℕ). x + y % b) (sym (add-mul (z / b * b) (z % b) b))
-    ∙ ap (λ (x : ℕ). x * b + y % b) (div-add-mod' z b)
-    ∙ div-add-mod' y b
-
--- so a step takes the root of a's leading digits to that of more of them
-onward : (a w b s r e x : ℕ) → s * s + r ≡ a / (w * (b * b)) → Refined s r b (a / (w * b) % b) (a / w % b) e x → e * e + x ≡ a / w
-onward a w b s r e x h k = k.whole ∙ ap (λ (z : ℕ). z * (b * b) + (a / (w * b) % b * b + a / w % b)) h ∙ digits a w b
-
--- four steps, by 3, 7, 13 and 26 digits, make the root of a * 2 ^ 52 from that of its leading seven or eight digits
-pub chain : (a s₂ s₃ r₃ s₄ r₄ s₅ r₅ s r : ℕ) → s₂ * s₂ ≤ a / 70368744177664 → 8 ≤ s₂
-    → Refined s₂ (a / 70368744177664 - s₂ * s₂) 8 (a / 8796093022208 % 8) (a / 1099511627776 % 8) s₃ r₃
-    → Refined s₃ r₃ 128 (a / 8589934592 % 128) (a / 67108864 % 128) s₄ r₄
-    → Refined s₄ r₄ 8192 (a / 8192 % 8192) (a % 8192) s₅ r₅
-    → Refined s₅ r₅ 67108864 0 0 s r
-    → Rooted a s r
-chain a s₂ s₃ r₃ s₄ r₄ s₅ r₅ s r h₁ h₂ h₃ h₄ h₅ h₆ =
-    let e₃ = onward a 1099511627776 8 s₂ (a / 70368744177664 - s₂ * s₂) s₃ r₃ (whole (a / 70368744177664) (s₂ * s₂) h₁) h₃ in
-    let e₄ = onward a 67108864 128 s₃ r₃ s₄ r₄ e₃ h₄ in
-    let e₅ : s₅ * s₅ + r₅ ≡ a / 1 =
-    onward a 1 8192 s₄ r₄ s₅ r₅ e₄ (subst (λ (x : ℕ). Refined s₄ r₄ 8192 (a / 8192 % 8192) (x % 8192) s₅ r₅) (sym (div-one a)) h₅) in
-    record { whole = last a s₅ r₅ s r (e₅ ∙ div-one a) h₆.whole; rem = h₆.rem; low = lower s₂ s₃ s₄ s₅ s h₂ h₃.low h₄.low h₅.low h₆.low }
-  where
-    whole : (t q : ℕ) → q ≤ t → q + (t - q) ≡ t
-    whole t q h = omega arith
-
-    last : (a s₅ r₅ s r : ℕ) → s₅ * s₅ + r₅ ≡ a → s * s + r ≡ (s₅ * s₅ + r₅) * (67108864 * 67108864) + (0 * 67108864 + 0) → s * s + r ≡ a * 4503599627370496
-    last a s₅ r₅ s r e f = omega arith
-
-    lower : (s₂ s₃ s₄ s₅ s : ℕ) → 8 ≤ s₂ → s₂ * 8 ≤ s₃ → s₃ * 128 ≤ s₄ → s₄ * 8192 ≤ s₅ → s₅ * 67108864 ≤ s → 4503599627370496 ≤ s
-    lower s₂ s₃ s₄ s₅ s b c d e f = omega arith

@@ -5,21 +5,16 @@ use mathlib.Core.List.{List, ◌++◌}
 use mathlib.Core.Path.{◌≡◌, refl, sym, ◌∙◌}
 use native.Mathlib.Nat.{add-zero}
 use native.Mathlib.Numerals.{add-one}
-use native.Mathlib.Omega.{arith}
 use Rattle.std.proofs.Common.{Some}
 use lib.ListN.{get_or}
 use Rattle.std.proofs.Math.ListN.{get_or-map}
 use Rattle.lists.specs.Lists.{joined, range}
 use Rattle.lists.specs.Fill.{joined_range}
-use Rattle.params.specs.declared.Mode.{Mode}
 use Rattle.params.specs.declared.SegmentKind.{SegmentKind}
 use Rattle.params.specs.declared.SegmentKind.TheVariants.{Coherent}
 use Rattle.params.specs.Params.{carriers_per_segment, kind_code, kind_codes}
-use Rattle.params.specs.Laws.{sized}
 use Rattle.ofdm.specs.Band.{segment_at}
-use Rattle.ofdm.specs.Laws.{segment_ends}
-use Rattle.role_counts.specs.declared.KindCounts.{KindCounts}
-use Rattle.role_counts.specs.Counts.{kind_counts, Few, few}
+use Rattle.role_counts.specs.Counts.{kind_counts}
 use Rattle.frame.specs.Answers.{kind_again}
 use Rattle.question.specs.declared.Question.{Question}
 use Rattle.question.specs.Question.{line_code}
@@ -32,13 +27,6 @@ use Rattle.text.specs.Laws.{then, put_as}
 
 pub joined_next : (f : ℕ → List ℕ) (n : ℕ) → joined f (range (n + 1)) ≡ joined f (range n) ++ f n
 joined_next f n = rw add-one (joined_range f n)
-
--- a segment's first carrier has four digits at most
-pub carrier_few : (mode : Mode) (place carrier : ℕ) → place < 13 → carrier ≡ place * carriers_per_segment mode + 0 → carrier < 10000
-carrier_few mode place carrier h e = omega (arith, segment_ends mode place h, (sized mode).band_high)
-
-pub counts_few : {k : KindCounts} (mode : Mode) (kind : SegmentKind) → k ≡ kind_counts mode kind → Few k
-counts_few mode kind e = rw e (few mode kind)
 
 -- a kind's code, and back
 code_from : (kinds : List SegmentKind) (k : ℕ) → kind_code (get_or kinds k Coherent) ≡ get_or (kind_codes kinds) k 0

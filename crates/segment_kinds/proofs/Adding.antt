@@ -3,7 +3,7 @@
 use Prim.Native.Nat.{ℕ, ◌+◌, ◌≤◌, ◌<◌}
 use mathlib.Core.Bool.{Bool, true, false}
 use mathlib.Core.List.{List, [], ◌∷◌, map}
-use mathlib.Core.Path.{◌≡◌, refl, ap}
+use mathlib.Core.Path.{◌≡◌, ap}
 use native.Mathlib.Numerals.{add-one}
 use native.Mathlib.Omega.{arith}
 use lib.ListN.{length, get_or, drop, drop_of_length-le}
@@ -20,9 +20,6 @@ module _ (keep : ℕ → Bool) (places : List ℕ) (f : ℕ → Float) (s₀ : F
     pub few : count ≤ n₀ + i
     pub summed : total binary32 sum (map f (ahead i)) ≡ total binary32 s₀ (map f (select keep places))
     pub counted : count + length (ahead i) ≡ n₀ + length (select keep places)
-
-  pub begin : Ahead s₀ n₀ 0
-  begin = record { few = omega arith; summed = refl; counted = refl }
 
   module _ (sum : Float) (count i : ℕ) (a : Ahead sum count i) where
     pub skip : i < length places → keep (get_or places i 0) ≡ false → Ahead sum count (i + 1)

@@ -74,9 +74,6 @@ module _ (mode : Mode) (old : List ℕ) where
     pub low : at ≤ 8 * seg
     pub front : Put (joined (segment_bins mode) (range seg)) old 0 at out
 
-  pub fill_begin : Filled 0 0 old
-  fill_begin = record { low = omega arith; front = record { next = refl; stored = refl } }
-
   module _ (seg at : ℕ) (out : List ℕ) (w : Filled seg at out) where
     pub fill_again : (at' : ℕ) (out' : List ℕ) → seg < 13 → Put (segment_bins mode seg) out at at' out' → Filled (seg + 1) at' out'
     unfolding segment_bins

@@ -3,7 +3,7 @@
 use Prim.Native.Nat.{ℕ, ◌+◌, ◌≤◌, ◌<◌}
 use mathlib.Core.List.{List}
 use mathlib.Core.Path.{◌≡◌, refl}
-use native.Mathlib.Nat.{add-zero, add-suc}
+use native.Mathlib.Nat.{add-suc}
 use native.Mathlib.Numerals.{add-one}
 use native.Mathlib.Omega.{arith}
 use lib.ListN.{length, get_or, drop, set, drop_of_length-le}
@@ -13,9 +13,6 @@ use Rattle.shift.specs.Inner.{Put}
 module _ (xs old : List ℕ) (at : ℕ) where
   abbrev pub Left : ℕ → List ℕ → Type 0
   Left i out = sets out (at + i) (drop i xs) ≡ sets old at xs
-
-  pub store_begin : Left 0 old
-  store_begin = rw add-zero
 
   pub store_again : (i v d : ℕ) (out : List ℕ) → i < length xs → v ≡ get_or xs i d → Left i out → Left (i + 1) (set out (at + i) v)
   store_again i v d out h e l = rw (e, add-one i, add-suc at i) (rw (drop-cons xs i d h) at l)

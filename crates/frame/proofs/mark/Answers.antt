@@ -1,6 +1,6 @@
 -- `frame::mark` meets its contract: what is left of the row marks what is marked so far into the whole.
 -- Assumes nothing.
-use Prim.Native.Nat.{◌≤◌}
+use Prim.Native.Nat.{ℕ, ◌≤◌}
 use mathlib.Core.Path.{sym, ap, ◌∙◌}
 use lib.ListN.{length, drop_of_length-le}
 use Rattle.frame.specs.Inner.{marked}
@@ -16,4 +16,5 @@ unfolding marked
 returns c =
     let l = c.loop-place in
     let all : length c.args.row.now ≤ l.place-index = omega arith in
-    sym (l.invariant ∙ ap (λ z. marked z c.args.role l.out) (drop_of_length-le _ all))
+    sym (l.invariant ∙ ap (λ z. marked z c.from-byte.result l.out) (drop_of_length-le _ all))
+    ∙ ap (λ (b : ℕ). marked c.args.row.now b c.args.out.now) c.from-byte.ensures

@@ -6,4 +6,4 @@ use Rattle.frame.specs.Inner.{marked}
 use Rattle.frame.proofs.mark.Given as goal
 
 abbrev pub invariant-loop-place : goal.invariant-loop-place
-invariant-loop-place l = marked l.row l.role l.initial.out ≡ marked (drop l.place-index l.row) l.role l.out
+invariant-loop-place l = marked l.row l.byte l.initial.out ≡ marked (drop l.place-index l.row) l.byte l.out

@@ -5,12 +5,11 @@ use Rattle.std.proofs.lemmas.Result.{err_from_is_err_and}
 use Rattle.ieee.specs.Differences.{held_exactly, difference_is}
 use Rattle.params.specs.Laws.{some_number}
 use Rattle.params.specs.declared.Refusal.TheVariants.{BadBound}
-use Rattle.ratio.specs.Codes.{accepted}
 use Rattle.shift.proofs.Codes.{by_spectra, by_bound, by_none}
 use Rattle.shift.proofs.Answers.{shift_small, searchable, bad_mode, refused, answered}
 use native.Mathlib.Omega.{arith}
 use Rattle.shift.proofs.Segments.{pattern_few}
-use mathlib.Core.Path.{refl, sym}
+use mathlib.Core.Path.{refl}
 use Rattle.shift.proofs.integer_cfo.Goals as goal
 
 pub returns-in_err-m : goal.returns-in_err-m
@@ -27,9 +26,6 @@ returns-in_err-refusal c =
 pub returns-then-bound-n : goal.returns-then-bound-n
 returns-then-bound-n c =
     refused _ _ _ _ _ c.in_ok-m.ensures BadBound (by_bound _ _ _ _ _ _ c.fft_size-n.ensures c.in_ok-refusal.ensures refl c.if-bound-n.true)
-
-pub write_ratios-requires : goal.write_ratios-requires
-write_ratios-requires c = accepted _ _ _ 0 (sym c.in_ok-refusal.ensures)
 
 pub search-best-requires : goal.search-best-requires
 search-best-requires c =

@@ -3,7 +3,7 @@
 use Prim.Native.Nat.{ℕ}
 use mathlib.Core.List.{List, [], ◌∷◌, ◌++◌}
 use mathlib.Core.Path.{◌≡◌, refl, sym, ap, ◌∙◌}
-use lib.ListN.{get_or}
+use lib.ListN.{get_or, set}
 use Rattle.lists.specs.Lists.{joined}
 use Rattle.lists.specs.Fill.{joined_map}
 use Rattle.params.specs.declared.Mode.{Mode}
@@ -56,5 +56,6 @@ bounds-out-edge c =
 
 pub returns : goal.returns
 returns c =
+    let edge = ap (λ (b : ℕ). set c.loop-place.out c.first_carrier-edge.result.0 b) c.from.ensures in
     whole _ _ (kind_codes c.args.self.kinds) _
-    (finish _ _ _ _ _ _ _ c.loop-place.invariant _ c.first_carrier-edge.ensures _ c.loop-place-test.false)
+    (edge ∙ finish _ _ _ _ _ _ _ c.loop-place.invariant _ c.first_carrier-edge.ensures _ c.loop-place-test.false)
