@@ -99,7 +99,8 @@ pub continual_number_lem : (mode : Option Mode) (kinds : List ℕ) (n : ℕ)
     → code_of (continual_list_answer mode kinds n) ≡ continual_list_code mode kinds n
 unfolding continual_list_answer continual_list_code
 continual_number_lem None kinds n = refl
-continual_number_lem (Some m) kinds n = answered_code (continual_list_code (Some m) kinds n) _ (unless_most _ 2 _ 11 (lit≤ tt) (unless_most _ 7 0 11 (lit≤ tt) (lit≤ tt)))
+continual_number_lem (Some m) kinds n =
+    answered_code (continual_list_code (Some m) kinds n) _ (unless_most _ 2 _ 11 (lit≤ tt) (unless_most _ 7 0 11 (lit≤ tt) (lit≤ tt)))
 
 pub continual_listed : (mode : Option Mode) (kinds out : List ℕ) (r : Result ℕ Refusal) (out' : List ℕ)
     → r ≡ continual_list_answer mode kinds (length out) → out' ≡ continual_list_leaves mode kinds out → ContinualListed mode kinds out r out'

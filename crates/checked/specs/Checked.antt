@@ -1,7 +1,8 @@
 -- The checked values of document 01, mode 1, as one table. A row of the role map, the sign map or the guess says what a call gives that meets the
 -- operation's contract, whatever its lent buffer held; a row of the bins is over the answer that the contract of the lookup cites.
 -- Assumes nothing.
-use Rattle.std.specs.Prelude.{ℕ, ◌*◌, ◌<◌, ◌≤◌, true, List, [], ◌∷◌, ◌++◌, ◌≡◌, refl, get_or, length, take, replicate, Float, Option, Some, None, Result, Ok, Err}
+use Rattle.std.specs.Prelude.{ℕ, ◌*◌, ◌<◌, ◌≤◌, true, List, [], ◌∷◌, ◌++◌, ◌≡◌, refl, get_or, length, take, replicate}
+use Rattle.std.specs.Prelude.{Float, Option, Some, None, Result, Ok, Err}
 use Rattle.std.proofs.Common.{◌∙◌}
 use Rattle.std.specs.Float.{binary32, binary64}
 use Rattle.params.specs.declared.Mode.TheVariants.{M1}
@@ -43,7 +44,9 @@ Signs = Leaves (SignMap (mode_from 1))
 
 -- the guess with only 1/32 tried, its scratch of at least so many entries, answers r
 abbrev Guess : List Float → ℕ → Result (Option ModeGuess) Refusal → Type 0
-Guess xs entries r = (old now : List Float) (answer : Result (Option ModeGuess) Refusal) → entries ≤ length old → Searched xs (1 ∷ []) (32 ∷ []) old answer now → answer ≡ r
+Guess xs entries r =
+    (old now : List Float) (answer : Result (Option ModeGuess) Refusal) → entries ≤ length old → Searched xs (1 ∷ []) (32 ∷ []) old answer now
+    → answer ≡ r
 
 pub record Checked : Type 0 where
   pub bin_of_0 : bin_lookup (mode_from 1) 0 ≡ Ok (record { 0 = 1346 })

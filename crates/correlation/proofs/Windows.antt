@@ -64,6 +64,7 @@ windowed_more sums ng f s a w e h =
       energy = gaps_more energies sums ng (up_to f s) a w.energy h.energy;
     })
 
-pub windowed_none : (sums : List Float) (ng : ℕ) → let z = plus_zero binary64 in Windowed sums ng [] (record { correlation = record { re = z; im = z }; energy = z })
+pub windowed_none : (sums : List Float) (ng : ℕ)
+    → let z = plus_zero binary64 in Windowed sums ng [] (record { correlation = record { re = z; im = z }; energy = z })
 unfolding total
 windowed_none sums ng = record { re = refl; im = refl; energy = refl }

@@ -16,7 +16,8 @@ use Rattle.guess.specs.Guess.{beats, tried_guard}
 -- ---- the guess that a window's sums tell
 abbrev pub guess_of : ℕ → ℕ → ℕ → Window → ModeGuess
 guess_of mode guard d w =
-    record { mode = mode; guard = guard; offset = d; metric = div binary64 (norm64 (of64 w.correlation)) w.energy; re = w.correlation.re; im = w.correlation.im }
+    let metric = div binary64 (norm64 (of64 w.correlation)) w.energy in
+    record { mode = mode; guard = guard; offset = d; metric = metric; re = w.correlation.re; im = w.correlation.im }
 
 -- the better of the best so far and a guess with that energy
 abbrev pub better_of : Option ModeGuess → Float → ModeGuess → Option ModeGuess

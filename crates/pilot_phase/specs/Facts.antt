@@ -31,7 +31,8 @@ use Rattle.pilot_phase.specs.PilotPhase.{phase_of, phase_code, detected, phase_a
 pub phase_number_lem : (mode : Option Mode) (kinds : List ℕ) (xs : List Float) → code_of (phase_answer mode kinds xs) ≡ phase_code mode kinds (length xs)
 unfolding phase_answer phase_code
 phase_number_lem None kinds xs = refl
-phase_number_lem (Some m) kinds xs = answered_code (phase_code (Some m) kinds (length xs)) _ (unless_most _ 2 _ 11 (lit≤ tt) (unless_most _ 5 0 11 (lit≤ tt) (lit≤ tt)))
+phase_number_lem (Some m) kinds xs =
+    answered_code (phase_code (Some m) kinds (length xs)) _ (unless_most _ 2 _ 11 (lit≤ tt) (unless_most _ 5 0 11 (lit≤ tt) (lit≤ tt)))
 
 -- so a refusal's number is never 0
 pub refused_number : (mode : Option Mode) (kinds : List ℕ) (xs : List Float) (refusal : Refusal) → phase_answer mode kinds xs ≡ Err refusal

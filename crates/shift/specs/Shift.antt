@@ -3,7 +3,8 @@
 -- Definitions only.
 use Rattle.params.specs.declared.Refusal.{Refusal}
 use Rattle.params.specs.declared.Refusal.TheVariants.{BadMode}
-use Rattle.std.specs.Prelude.{ℕ, suc, ◌+◌, ◌-◌, ◌*◌, ◌/◌, ◌%◌, cond, List, [], ◌∷◌, ◌++◌, map, ◌≡◌, eqb, leb, ℤ, pos, negsuc, get_or, length, Float, Option, Some, None, Result, Err}
+use Rattle.std.specs.Prelude.{ℕ, suc, ◌+◌, ◌-◌, ◌*◌, ◌/◌, ◌%◌, cond, List, [], ◌∷◌, ◌++◌, map, ◌≡◌, eqb, leb, ℤ, pos, negsuc}
+use Rattle.std.specs.Prelude.{get_or, length, Float, Option, Some, None, Result, Err}
 use Rattle.std.specs.Float.{nan, binary32}
 use Rattle.std.specs.Float.Ieee.{minus, lt, div, of_int}
 use Rattle.ieee.specs.Constants.{minus_zero, lowest}
