@@ -13,7 +13,7 @@ ghost use Rattle.ballots.specs.Inner.{Parted, Sized, PilotAt, Joined, Walkable, 
 use complex::C32;
 use frame::FrameLayout;
 use ofdm::{BandCarrier, BandPlace, SegmentPlace};
-use params::SegmentKind;
+use params::{Phase, SegmentKind};
 
 const MINUS_ONE: f32 = -1.0;
 
@@ -110,9 +110,9 @@ fn walk_segment(start: Run, y: &[f32], signs: &[u8], lowest: BandCarrier, count:
 }
 
 // How coherent the pilots of a phase are in the spectrum y, if they have energy: a NaN is not above zero.
-fn phase_metric(layout: FrameLayout, y: &[f32], signs: &[u8], phase: u8) -> Option<f32>
-    requires { (phase < 4) × Spectrum layout.mode (length y.now) signs.now }
-    ensures { result ≡ coherence layout.mode (kind_codes layout.kinds) (pair_at y.now) phase }
+fn phase_metric(layout: FrameLayout, y: &[f32], signs: &[u8], phase: Phase) -> Option<f32>
+    requires { Spectrum layout.mode (length y.now) signs.now }
+    ensures { result ≡ coherence layout.mode (kind_codes layout.kinds) (pair_at y.now) phase.number }
 {
     let mode = layout.mode;
     let c = mode.carriers_per_segment();
@@ -125,7 +125,7 @@ fn phase_metric(layout: FrameLayout, y: &[f32], signs: &[u8], phase: u8) -> Opti
         let here = BandPlace(place);
         match layout.kind(ofdm::segment_at_position(here)) {
             SegmentKind::Coherent => {
-                let lowest = ofdm::band_carrier(mode, here, SegmentPlace(3 * phase as usize));
+                let lowest = ofdm::band_carrier(mode, here, SegmentPlace(3 * phase.number as usize));
                 run = walk_segment(run, y, signs, lowest, c / 12);
             }
             SegmentKind::Differential => {
@@ -149,7 +149,7 @@ pub fn ballot_of(layout: FrameLayout, y: &[f32], signs: &[u8]) -> Ballot
     let mut metric = MINUS_ONE;
     let mut heard = false;
     for phase in 0..4 {
-        let found = phase_metric(layout, y, signs, phase);
+        let found = phase_metric(layout, y, signs, Phase { number: phase });
         // A phase without energy is compared by 0.0.
         let m = found.unwrap_or(0.0);
         if m > metric {

@@ -13,7 +13,7 @@ ghost use Rattle.carrier_lists.specs.Inner.{Room, Collected, DataRoom, data_in, 
 
 use frame::{AC1, AC2, CP, DATA, FrameLayout, TMCC};
 use ofdm::{BandCarrier, Segment};
-use params::{Mode, Refusal};
+use params::{Mode, Phase, Refusal};
 
 // Stores, from index `at` of `out` on, the carriers whose role byte lies from low to high, where
 // roles[i] is that of the i-th carrier from the first on. Hands back the index behind the last.
@@ -51,7 +51,7 @@ fn collect_data(mode: Mode, roles: &[u8], out: &mut [u32])
     let c = mode.carriers_per_segment();
     let mut at: usize = 0;
     for seg in 0..13 {
-        let first = ofdm::first_carrier(mode, ofdm::segment_position(Segment(seg)));
+        let first = ofdm::first_carrier(mode, ofdm::segment_position(Segment { number: seg }));
         let from = first.0;
         let to = from + c;
         at = collect(&roles[from..to], DATA, DATA, first, out, at);
@@ -85,9 +85,8 @@ fn collect_continual(roles: &[u8], out: &mut [u32]) -> Result<usize, Refusal>
 }
 
 // Role bytes of the band, in a buffer's first k_total entries.
-fn band(layout: FrameLayout, phase: u8) -> [u8; 5617]
-    requires { phase < 4 }
-    ensures { BandBuffer layout.mode (band_roles layout.mode phase (wide (kind_codes layout.kinds))) result }
+fn band(layout: FrameLayout, phase: Phase) -> [u8; 5617]
+    ensures { BandBuffer layout.mode (band_roles layout.mode phase.number (wide (kind_codes layout.kinds))) result }
 {
     let mode = layout.mode;
     let k = mode.total_carriers();
@@ -97,9 +96,9 @@ fn band(layout: FrameLayout, phase: u8) -> [u8; 5617]
 }
 
 // Data carriers of a layout, in segment-number order.
-pub fn data_carriers(layout: FrameLayout, phase: u8, out: &mut [u32])
-    requires { (phase < 4) × (length out.old ≡ 13 * data_carriers_per_segment layout.mode) }
-    ensures { out.new ≡ data_list layout.mode phase (kind_codes layout.kinds) }
+pub fn data_carriers(layout: FrameLayout, phase: Phase, out: &mut [u32])
+    requires { length out.old ≡ 13 * data_carriers_per_segment layout.mode }
+    ensures { out.new ≡ data_list layout.mode phase.number (kind_codes layout.kinds) }
 {
     let mode = layout.mode;
     let k = mode.total_carriers();
@@ -113,7 +112,7 @@ pub fn continual_carriers(layout: FrameLayout, out: &mut [u32]) -> Result<usize,
 {
     let mode = layout.mode;
     let k = mode.total_carriers();
-    let roles = band(layout, 0);
+    let roles = band(layout, Phase { number: 0 });
     collect_continual(&roles[..k], out)
 }
 
@@ -125,9 +124,7 @@ pub fn data_list(mode: u8, phase: u8, kinds: &[u8], out: &mut [u32]) -> Result<(
     ensures { DataList (mode_from mode) phase kinds.now out.old (code_of result) out.new }
 {
     let layout = FrameLayout::new(mode, kinds)?;
-    if 3 < phase {
-        return Err(Refusal::BadPhase);
-    }
+    let phase = Phase::try_from(phase)?;
     if out.len() != 13 * layout.mode.data_carriers_per_segment() {
         return Err(Refusal::WrongLength);
     }

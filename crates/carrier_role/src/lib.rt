@@ -13,7 +13,7 @@ ghost use Rattle.carrier_role.specs.CarrierRole.{RoleTold};
 
 use frame::{AcKind, CarrierRole, FrameLayout};
 use ofdm::{BandCarrier, BandPlace, Segment, SegmentPlace};
-use params::{Mode, Refusal, SegmentKind};
+use params::{Mode, Phase, Refusal, SegmentKind};
 
 // Whether a row of a table has a place. A row ascends, so the first entry that is not below the place
 // decides, where `contains` would read the row to its end.
@@ -33,17 +33,15 @@ fn has_place(row: &[u16], p: SegmentPlace) -> bool
 
 // The role of a place that is no pilot: what the tables say, or data.
 fn table_role(mode: Mode, seg: Segment, kind: SegmentKind, p: SegmentPlace) -> CarrierRole
-    requires { seg.0 < 13 }
-    ensures { result ≡ table_role mode kind seg.0 p.0 }
+    ensures { result ≡ table_role mode kind seg.number p.0 }
 {
-    let row = seg.0;
-    if has_place(tables::tmcc_positions(mode, kind, row), p) {
+    if has_place(tables::tmcc_positions(mode, kind, seg), p) {
         return CarrierRole::Tmcc;
     }
-    if has_place(tables::ac1_positions(mode, kind, row), p) {
+    if has_place(tables::ac1_positions(mode, kind, seg), p) {
         return CarrierRole::Ac(AcKind::Ac1);
     }
-    if has_place(tables::ac2_positions(mode, kind, row), p) {
+    if has_place(tables::ac2_positions(mode, kind, seg), p) {
         return CarrierRole::Ac(AcKind::Ac2);
     }
     CarrierRole::Data
@@ -55,15 +53,14 @@ fn place_role(
     mode: Mode,
     seg: Segment,
     kind: SegmentKind,
-    phase: u8,
+    phase: Phase,
     p: SegmentPlace,
 ) -> CarrierRole
-    requires { seg.0 < 13 }
-    ensures { result ≡ place_role mode (ofdm_segment seg.0 kind) phase p.0 }
+    ensures { result ≡ place_role mode (ofdm_segment seg.number kind) phase.number p.0 }
 {
     match kind {
         SegmentKind::Coherent => {
-            if frame::is_sp(p, phase) {
+            if frame::is_sp(p, phase.number) {
                 CarrierRole::Sp
             } else {
                 table_role(mode, seg, kind, p)
@@ -81,9 +78,9 @@ fn place_role(
 
 // The role of a carrier of an accepted layout: the edge, or what the carrier's place in its segment
 // says.
-fn band_role(layout: FrameLayout, phase: u8, k: BandCarrier) -> CarrierRole
+fn band_role(layout: FrameLayout, phase: Phase, k: BandCarrier) -> CarrierRole
     requires { k.0 < total_carriers layout.mode }
-    ensures { result ≡ role_at layout.mode phase (wide (kind_codes layout.kinds)) k.0 }
+    ensures { result ≡ role_at layout.mode phase.number (wide (kind_codes layout.kinds)) k.0 }
 {
     let mode = layout.mode;
     let edge = ofdm::first_carrier(mode, BandPlace(13));
@@ -110,9 +107,7 @@ pub fn carrier_role(
     ensures { RoleTold (mode_from mode) phase kinds.now k.0 result }
 {
     let layout = FrameLayout::new(mode, kinds)?;
-    if 3 < phase {
-        return Err(Refusal::BadPhase);
-    }
+    let phase = Phase::try_from(phase)?;
     if layout.mode.total_carriers() <= k.0 {
         return Err(Refusal::Outside);
     }

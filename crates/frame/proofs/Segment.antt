@@ -20,7 +20,7 @@ use Rattle.tables.specs.Rule.{apart, tmcc_below, ac1_below, ac2_below}
 use Rattle.frame.specs.declared.AcKind.TheVariants.{Ac1, Ac2}
 use Rattle.frame.specs.declared.CarrierRole.TheVariants.{Tmcc, Ac}
 use Rattle.frame.specs.Roles.{OfdmSegment, ofdm_segment, role_byte, first_claim, place_role, segment_roles}
-use Rattle.frame.specs.Inner.{pilot_byte, marked, Markable, InSegment}
+use Rattle.frame.specs.Inner.{pilot_byte, marked, Markable}
 use Rattle.frame.proofs.Marked.{length_marked, marked_at}
 
 -- a row of the tables may be marked
@@ -89,6 +89,12 @@ module _ (mode : Mode) (s : OfdmSegment) (phase : ℕ) (in_table : s.row < 13) (
           )
           (any_order (is_sp s.kind phase p) (is_cp s.kind p) (memb p tmcc) (memb p ac1) (memb p ac2)
           (apart mode s.kind s.row phase in_table in_cycle p h))
+
+-- a segment of the tables, a phase, and room for the segment's carriers
+pub record InSegment (mode : Mode) (row phase : ℕ) (out : List ℕ) : Type 0 where
+  pub row_below : row < 13
+  pub phase_below : phase < 4
+  pub room : length out ≡ carriers_per_segment mode
 
 -- the four steps of the code, one after the other: each row may be marked, and the last leaves the roles
 module _ (mode : Mode) (seg : ℕ) (kind : SegmentKind) (phase : ℕ) (old : List ℕ) (i : InSegment mode seg phase old) where

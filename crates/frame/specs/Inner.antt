@@ -6,7 +6,7 @@ use Rattle.params.specs.declared.Refusal.{Refusal}
 use Rattle.params.specs.declared.Refusal.TheVariants.{BadMode, BadKinds}
 use Rattle.params.specs.declared.Mode.{Mode}
 use Rattle.params.specs.declared.SegmentKind.{SegmentKind}
-use Rattle.params.specs.Params.{carriers_per_segment, kind_codes}
+use Rattle.params.specs.Params.{kind_codes}
 use Rattle.tables.specs.Places.{is_sp, is_cp}
 use Rattle.frame.specs.declared.FrameLayout.{FrameLayout}
 use Rattle.frame.specs.declared.CarrierRole.{CarrierRole}
@@ -28,12 +28,6 @@ marked (p ∷ ps) role out = marked ps role (set out p role)
 -- each place of the row lies within out
 pub record Markable (row out : List ℕ) : Type 0 where
   pub within : (i : ℕ) → i < length row → get_or row i 0 < length out
-
--- a segment of the tables, a phase, and room for the segment's carriers
-pub record InSegment (mode : Mode) (row phase : ℕ) (out : List ℕ) : Type 0 where
-  pub row_below : row < 13
-  pub phase_below : phase < 4
-  pub room : length out ≡ carriers_per_segment mode
 
 -- kinds from outside: read, or refused
 abbrev pub KindsTold : List ℕ → Result (List SegmentKind) Refusal → Type 0

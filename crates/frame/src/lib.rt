@@ -9,15 +9,15 @@
 
 ghost use Rattle.std.specs.Prelude.{◌≡◌, ◌<◌, length, get_or};
 ghost use Rattle.lists.specs.Lists.{up_to};
-ghost use Rattle.params.specs.Params.{mode_from, total_carriers, kind_from, code_of, kind_codes};
+ghost use Rattle.params.specs.Params.{mode_from, carriers_per_segment, total_carriers, kind_from, code_of, kind_codes};
 ghost use Rattle.params.specs.declared.SegmentKind.TheVariants.{Coherent};
 ghost use Rattle.tables.specs.Places.{is_sp};
 ghost use Rattle.frame.specs.Roles.{role_byte, ofdm_segment, segment_roles, band_roles, wide, between};
-ghost use Rattle.frame.specs.Inner.{pilot_role, pilot_byte, marked, Markable, InSegment, KindsTold, LayoutTold};
+ghost use Rattle.frame.specs.Inner.{pilot_role, pilot_byte, marked, Markable, KindsTold, LayoutTold};
 ghost use Rattle.frame.specs.Operations.{RoleMap};
 
 use ofdm::{BandPlace, Segment, SegmentPlace};
-use params::{Mode, Refusal, SegmentKind};
+use params::{Mode, Phase, Refusal, SegmentKind};
 
 // Role bytes. They have names beside the roles, since `carrier_lists` asks for those from one to another.
 pub const DATA: u8 = 0;
@@ -122,26 +122,25 @@ fn mark(row: &[u16], role: CarrierRole, out: &mut [u8])
     }
 }
 
-// Role bytes of a segment's carriers in a symbol with the given SP phase (0 to 3; of no effect in a
-// differential segment), lowest first.
-pub fn segment_roles(mode: Mode, seg: Segment, kind: SegmentKind, phase: u8, out: &mut [u8])
-    requires { InSegment mode seg.0 phase out.old }
-    ensures { out.new ≡ segment_roles mode phase (ofdm_segment seg.0 kind) }
+// Role bytes of a segment's carriers in a symbol with the given SP phase (of no effect in a differential
+// segment), lowest first.
+pub fn segment_roles(mode: Mode, seg: Segment, kind: SegmentKind, phase: Phase, out: &mut [u8])
+    requires { length out.old ≡ carriers_per_segment mode }
+    ensures { out.new ≡ segment_roles mode phase.number (ofdm_segment seg.number kind) }
 {
-    let row = seg.0;
-    write_pilots(kind, phase, out);
+    write_pilots(kind, phase.number, out);
     mark(
-        tables::tmcc_positions(mode, kind, row),
+        tables::tmcc_positions(mode, kind, seg),
         CarrierRole::Tmcc,
         out,
     );
     mark(
-        tables::ac1_positions(mode, kind, row),
+        tables::ac1_positions(mode, kind, seg),
         CarrierRole::Ac(AcKind::Ac1),
         out,
     );
     mark(
-        tables::ac2_positions(mode, kind, row),
+        tables::ac2_positions(mode, kind, seg),
         CarrierRole::Ac(AcKind::Ac2),
         out,
     );
@@ -181,16 +180,15 @@ impl FrameLayout {
 
     // The kind of a segment.
     pub fn kind(self, seg: Segment) -> SegmentKind
-        requires { seg.0 < 13 }
-        ensures { result ≡ kind_from (get_or (kind_codes self.kinds) seg.0 0) }
+        ensures { result ≡ kind_from (get_or (kind_codes self.kinds) seg.number 0) }
     {
-        self.kinds[seg.0]
+        self.kinds[seg.number]
     }
 
     // Role bytes of all carriers of the band, segment after segment from the lowest place.
-    pub fn roles(self, phase: u8, out: &mut [u8])
-        requires { (phase < 4) × (length out.old ≡ total_carriers self.mode) }
-        ensures { out.new ≡ band_roles self.mode phase (wide (kind_codes self.kinds)) }
+    pub fn roles(self, phase: Phase, out: &mut [u8])
+        requires { length out.old ≡ total_carriers self.mode }
+        ensures { out.new ≡ band_roles self.mode phase.number (wide (kind_codes self.kinds)) }
     {
         let mode = self.mode;
         let c = mode.carriers_per_segment();
@@ -213,9 +211,7 @@ pub fn role_map(mode: u8, phase: u8, kinds: &[u8], out: &mut [u8]) -> Result<(),
     ensures { RoleMap (mode_from mode) phase kinds.now out.old (code_of result) out.new }
 {
     let layout = FrameLayout::new(mode, kinds)?;
-    if 3 < phase {
-        return Err(Refusal::BadPhase);
-    }
+    let phase = Phase::try_from(phase)?;
     if out.len() != layout.mode.total_carriers() {
         return Err(Refusal::WrongLength);
     }

@@ -4,7 +4,7 @@
 #![tactic(auto)]
 
 ghost use Rattle.std.specs.Prelude.{◌≡◌, length};
-ghost use Rattle.params.specs.Params.{mode_from, code_of, given};
+ghost use Rattle.params.specs.Params.{mode_from, code_of, given, kind_codes};
 ghost use Rattle.root.specs.Root.{root_of};
 ghost use Rattle.ieee.specs.Narrow.{narrow_of};
 ghost use Rattle.complex.specs.Complex.{pair, norm32, norm64};
@@ -24,7 +24,7 @@ ghost use Rattle.tmcc.specs.Tmcc.{soft_answer};
 
 use complex::{C32, C64};
 use ofdm::BandCarrier;
-use params::Refusal;
+use params::{Refusal, SegmentKind};
 use pilot_times::Current;
 
 // Hands an answer on to what is lent for it, and tells its number.
@@ -38,6 +38,17 @@ fn lend<T: Copy>(answer: Result<T, Refusal>, lent: &mut T) -> u8
         }
         Err(refusal) => u8::from(refusal),
     }
+}
+
+// The codes of thirteen kinds.
+fn codes_of(kinds: [SegmentKind; 13]) -> [u8; 13]
+    ensures { result ≡ kind_codes kinds }
+{
+    let mut codes = [0u8; 13];
+    for seg in 0..13 {
+        codes[seg] = u8::from(kinds[seg]);
+    }
+    codes
 }
 
 // The FFT bin of carrier k.
@@ -206,10 +217,10 @@ pub fn sillurwy_detect_kinds(
 {
     match segment_kinds::detect_kinds(mode, spectra, ratios) {
         Ok(found) => {
-            for (code, kind) in kinds.iter_mut().zip(found.kinds) {
-                *code = u8::from(kind);
-            }
-            *scores = found.scores;
+            let codes = codes_of(found.kinds);
+            let found_scores = found.scores;
+            *kinds = codes;
+            *scores = found_scores;
             0
         }
         Err(refusal) => u8::from(refusal),
@@ -234,7 +245,8 @@ pub fn sillurwy_detect_sp_phase(
 {
     match pilot_phase::detect_sp_phase(mode, kinds, spectra) {
         Ok(answer) => {
-            *counts = answer.counts;
+            let votes = answer.counts;
+            *counts = votes;
             *lead = answer.lead;
             match answer.phase {
                 Some(told) => {

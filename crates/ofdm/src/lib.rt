@@ -23,7 +23,10 @@ pub struct FftBin(pub usize);
 
 // A segment's number, 0 to 12, as the standard counts from the band's middle.
 #[derive(Clone, Copy)]
-pub struct Segment(pub usize);
+pub struct Segment {
+    pub number: usize,
+    ghost in_band: { number < 13 },
+}
 
 // A segment's place in the band, 0 to 12 from the lowest frequency.
 #[derive(Clone, Copy)]
@@ -34,21 +37,22 @@ const SEGMENT_AT: [usize; 13] = [11, 9, 7, 5, 3, 1, 0, 2, 4, 6, 8, 10, 12];
 const PLACE_OF: [usize; 13] = [6, 5, 7, 4, 8, 3, 9, 2, 10, 1, 11, 0, 12];
 
 // The segment at a place of the band.
+#[tactic(auto, using(crate::specs::Laws::segment_below))]
 pub fn segment_at_position(place: BandPlace) -> Segment
     requires { place.0 < 13 }
-    ensures { (result.0 ≡ segment_at place.0) × (result.0 < 13) }
+    ensures { result.number ≡ segment_at place.0 }
 {
-    let p = place.0;
-    Segment(SEGMENT_AT[p])
+    Segment {
+        number: SEGMENT_AT[place.0],
+    }
 }
 
 // The place of a segment in the band.
+#[tactic(auto, using(crate::specs::Laws::place_below))]
 pub fn segment_position(seg: Segment) -> BandPlace
-    requires { seg.0 < 13 }
-    ensures { (result.0 ≡ place_of seg.0) × (result.0 < 13) }
+    ensures { (result.0 ≡ place_of seg.number) × (result.0 < 13) }
 {
-    let s = seg.0;
-    BandPlace(PLACE_OF[s])
+    BandPlace(PLACE_OF[seg.number])
 }
 
 // The lowest carrier of the segment at a place of the band. Place 13 is behind the last segment: the edge.

@@ -1,2 +1,3 @@
 pub mod Params
 pub mod Laws
+pub mod Phase

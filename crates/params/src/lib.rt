@@ -4,6 +4,10 @@
 // A code from outside becomes an enum once, at the border; behind it a wrong code cannot occur.
 #![tactic(auto)]
 
+mod phase;
+
+pub use phase::Phase;
+
 ghost use Rattle.std.specs.Prelude.{◌≡◌};
 ghost use Rattle.params.specs.Params.{mode_number, kind_code, kind_from, refusal_number, code_of, ModeTold, GuardTold, KindTold};
 ghost use Rattle.params.specs.Params.{carriers_per_segment, data_carriers_per_segment, total_carriers, fft_size};

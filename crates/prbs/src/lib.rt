@@ -66,10 +66,10 @@ fn run_register(start: Prbs, out: &mut [u8])
 
 // W of a segment's carriers, lowest first.
 pub fn segment_w(mode: Mode, seg: Segment, out: &mut [u8])
-    requires { (seg.0 < 13) × (length out.old ≡ carriers_per_segment mode) }
-    ensures { out.new ≡ segment_signs mode seg.0 }
+    requires { (length out.old ≡ carriers_per_segment mode) }
+    ensures { out.new ≡ segment_signs mode seg.number }
 {
-    let row = tables::prbs_segment_init(mode, seg.0);
+    let row = tables::prbs_segment_init(mode, seg);
     run_register(Prbs::init(row), out);
 }
 

@@ -26,6 +26,5 @@ LettersTold letters (Err refusal) = (all_in is_kind_letter letters ≡ false) ×
 -- the question that a line asks
 pub record Asked (s : List ℕ) (question : Question) : Type 0 where
   pub mode : mode_asked s ≡ Some question.mode
-  pub phase : phase_asked s ≡ question.phase
-  pub phase_below : question.phase < 4
+  pub phase : phase_asked s ≡ question.phase.number
   pub kinds : kinds_asked s ≡ kind_codes question.kinds

@@ -7,13 +7,13 @@ ghost use Rattle.params.specs.Params.{code_of};
 ghost use Rattle.question.specs.Question.{line_code};
 ghost use Rattle.question.specs.Asked.{DigitTold, LetterTold, LettersTold, Asked};
 
-use params::{Mode, Refusal, SegmentKind};
+use params::{Mode, Phase, Refusal, SegmentKind};
 
-// What a question asks. Its phase is below 4.
+// What a question asks.
 #[derive(Clone, Copy)]
 pub struct Question {
     pub mode: Mode,
-    pub phase: u8,
+    pub phase: Phase,
     pub kinds: [SegmentKind; 13],
 }
 
@@ -66,9 +66,7 @@ impl Question {
         let phase = digit(line[2])?;
         let kinds = read_kinds(&line[4..])?;
         let mode = Mode::try_from(number)?;
-        if 3 < phase {
-            return Err(Refusal::BadPhase);
-        }
+        let phase = Phase::try_from(phase)?;
         Ok(Question { mode, phase, kinds })
     }
 }

@@ -5,13 +5,12 @@
 
 ghost use Rattle.std.specs.Prelude.{ℕ, ◌<◌, ◌≤◌};
 
+use ofdm::Segment;
 use params::{Mode, SegmentKind};
 use replay::{Answers, Cut};
 use std::io;
 use std::io::Stdin;
 use tally::Tally;
-
-const MODES: [Mode; 3] = [Mode::M1, Mode::M2, Mode::M3];
 
 // Compares numbers with the next ones that are stored.
 fn compare<F: Fn(usize) -> u16>(answers: &mut Answers, n: usize, number: F) -> Result<(), Cut>
@@ -39,15 +38,15 @@ fn check_row(answers: &mut Answers, row: &[u16]) -> Result<(), Cut> {
     Ok(())
 }
 
-fn check_table<'a, F: Fn(Mode, usize) -> &'a [u16]>(
+fn check_table<'a, F: Fn(Mode, Segment) -> &'a [u16]>(
     answers: &mut Answers,
     row: F,
 ) -> Result<(), Cut>
-    requires { (mode : _) (seg : ℕ) → seg < 13 → F.pre row mode seg }
+    requires { F.IsAlwaysCallable row }
 {
-    for mode in MODES {
+    for mode in Mode::ALL {
         for seg in 0..13 {
-            check_row(answers, row(mode, seg))?;
+            check_row(answers, row(mode, Segment { number: seg }))?;
         }
     }
     Ok(())
@@ -80,15 +79,17 @@ fn check_tables(answers: &mut Answers) -> Result<(), Cut> {
 }
 
 fn check_states(answers: &mut Answers) -> Result<(), Cut> {
-    for mode in MODES {
-        compare(answers, 13, |seg| tables::prbs_segment_init(mode, seg))?;
+    for mode in Mode::ALL {
+        compare(answers, 13, |seg: usize| -> u16
+            requires { seg < 13 }
+        { tables::prbs_segment_init(mode, Segment { number: seg }) })?;
     }
     Ok(())
 }
 
 // Behind the last table the input must end.
 fn check_randomizing(answers: &mut Answers) -> Result<(), Cut> {
-    for mode in MODES {
+    for mode in Mode::ALL {
         compare(answers, mode.data_carriers_per_segment(), |i| {
             tables::carrier_randomize(mode, i)
         })?;

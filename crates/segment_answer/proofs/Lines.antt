@@ -35,13 +35,13 @@ code_from kinds k = sym (get_or-map kind_code kinds k Coherent)
 
 -- the head and the counts make the line of a segment
 pub segment_put : {out mid end : List ℕ} {at a r : ℕ} (question : Question) (place seg letter carrier : ℕ) (kind : SegmentKind)
-    → question.phase < 4 → place < 13 → seg ≡ segment_at place → carrier ≡ place * carriers_per_segment question.mode + 0
+    → place < 13 → seg ≡ segment_at place → carrier ≡ place * carriers_per_segment question.mode + 0
     → kind ≡ get_or question.kinds seg Coherent → letter ≡ 67 + kind_code kind
     → Put out at (line_head place seg letter carrier) a mid → Put mid a (counts_line (kind_counts question.mode kind)) r end
     → Put out at (line_of question place) r end
-segment_put question place seg letter carrier kind q h es ec ek el p t =
+segment_put question place seg letter carrier kind h es ec ek el p t =
     let k = segment_at place in
-    put_as (line_parts question.mode question.phase (kind_codes question.kinds) place q h
+    put_as (line_parts question.mode question.phase.number (kind_codes question.kinds) place question.phase.in_cycle h
     ∙ rw (el, ek, es, ec, add-zero, code_from question.kinds k, kind_again question.kinds k)) (then p t)
 
 -- the lines of a question that a line asks

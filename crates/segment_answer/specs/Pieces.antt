@@ -9,7 +9,7 @@ use Rattle.segment_answer.specs.Answer.{segment_line}
 
 -- the line of the segment at a place, for a question
 abbrev pub line_of : Question → ℕ → List ℕ
-line_of question place = segment_line question.mode question.phase (kind_codes question.kinds) place
+line_of question place = segment_line question.mode question.phase.number (kind_codes question.kinds) place
 
 -- a segment's line up to its counts
 abbrev pub line_head : ℕ → ℕ → ℕ → ℕ → List ℕ

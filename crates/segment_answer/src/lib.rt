@@ -47,12 +47,12 @@ fn put_head(
     letter: u8,
     carrier: BandCarrier,
 ) -> usize
-    requires { (at + 13 ≤ length out.old) × (place.0 < 13) × (seg.0 < 13) × (carrier.0 < 10000) }
-    ensures put { Put out.old at (line_head place.0 seg.0 letter carrier.0) result out.new }
+    requires { (at + 13 ≤ length out.old) × (place.0 < 13) × (carrier.0 < 10000) }
+    ensures put { Put out.old at (line_head place.0 seg.number letter carrier.0) result out.new }
     ensures upper_bound { result ≤ at + 13 }
 {
     let number = put_number(out, at, place.0, b',');
-    let kind = put_number(out, number, seg.0, b',');
+    let kind = put_number(out, number, seg.number, b',');
     let comma = put_byte(out, kind, letter);
     let lowest = put_byte(out, comma, b',');
     put_number(out, lowest, carrier.0, b',')
@@ -60,12 +60,12 @@ fn put_head(
 
 // The line of the segment at a place.
 fn put_segment(out: &mut [u8], at: usize, question: Question, place: BandPlace) -> usize
-    requires { (at + 37 ≤ length out.old) × (place.0 < 13) × (question.phase < 4) }
+    requires { (at + 37 ≤ length out.old) × (place.0 < 13) }
     ensures put { Put out.old at (line_of question place.0) result out.new }
     ensures upper_bound { result ≤ at + 37 }
 {
     let seg = ofdm::segment_at_position(place);
-    let kind = question.kinds[seg.0];
+    let kind = question.kinds[seg.number];
     let letter = b'C' + u8::from(kind);
     let carrier = ofdm::band_carrier(question.mode, place, SegmentPlace(0));
     let counts = put_head(out, at, place, seg, letter, carrier);
@@ -74,7 +74,7 @@ fn put_segment(out: &mut [u8], at: usize, question: Question, place: BandPlace) 
 
 // The thirteen lines of the segments, by place.
 fn put_segments(out: &mut [u8], at: usize, question: Question) -> usize
-    requires { (at + 481 ≤ length out.old) × (question.phase < 4) }
+    requires { at + 481 ≤ length out.old }
     ensures put { Put out.old at (joined (line_of question) (range 13)) result out.new }
     ensures upper_bound { result ≤ at + 481 }
 {

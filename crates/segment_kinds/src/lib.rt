@@ -85,18 +85,18 @@ impl SegmentRatios<'_> {
 
 // The mean ratio of a segment's telling places. `ratios` are those of the band.
 fn segment_score(mode: Mode, seg: Segment, ratios: &[f32]) -> f32
-    requires { Banded mode seg.0 (length ratios.now) }
-    ensures { result ≡ kind_score mode ratios.now seg.0 }
+    requires { Banded mode seg.number (length ratios.now) }
+    ensures { result ≡ kind_score mode ratios.now seg.number }
 {
     let segment = SegmentRatios {
         mode,
         at: ofdm::segment_position(seg),
-        tmcc: tables::tmcc_positions(mode, SegmentKind::Coherent, seg.0),
-        ac1: tables::ac1_positions(mode, SegmentKind::Coherent, seg.0),
+        tmcc: tables::tmcc_positions(mode, SegmentKind::Coherent, seg),
+        ac1: tables::ac1_positions(mode, SegmentKind::Coherent, seg),
         ratios,
     };
-    let ac2 = tables::ac2_positions(mode, SegmentKind::Differential, seg.0);
-    let differential = tables::tmcc_positions(mode, SegmentKind::Differential, seg.0);
+    let ac2 = tables::ac2_positions(mode, SegmentKind::Differential, seg);
+    let differential = tables::tmcc_positions(mode, SegmentKind::Differential, seg);
     segment.mean_ratio(ac2, differential)
 }
 
@@ -119,7 +119,7 @@ fn detected(mode: Mode, ratios: &[f32]) -> DetectedKinds
     let mut kinds = [SegmentKind::Coherent; 13];
     let mut scores = [0.0f32; 13];
     for seg in 0..13 {
-        let score = segment_score(mode, Segment(seg), ratios);
+        let score = segment_score(mode, Segment { number: seg }, ratios);
         scores[seg] = score;
         kinds[seg] = kind_of(score);
     }

@@ -27,10 +27,10 @@ pub struct Best {
 
 // Stores the bins of a segment's AC1 carriers from index `at` on, and gives the index behind.
 fn put_segment(mode: Mode, seg: Segment, out: &mut [u32], at: usize) -> usize
-    requires { Room seg.0 out.old at }
-    ensures { Put (segment_bins mode seg.0) out.old at result out.new }
+    requires { Room seg.number out.old at }
+    ensures { Put (segment_bins mode seg.number) out.old at result out.new }
 {
-    let row = tables::ac1_positions(mode, SegmentKind::Coherent, seg.0);
+    let row = tables::ac1_positions(mode, SegmentKind::Coherent, seg);
     let place = ofdm::segment_position(seg);
     for (i, p) in row.iter().enumerate() {
         let k = ofdm::band_carrier(mode, place, SegmentPlace(*p as usize));
@@ -48,7 +48,7 @@ fn put_pattern(mode: Mode, out: &mut [u32]) -> &[u32]
 {
     let mut at: usize = 0;
     for seg in 0..13 {
-        at = put_segment(mode, Segment(seg), out, at);
+        at = put_segment(mode, Segment { number: seg }, out, at);
     }
     let edge = ofdm::carrier_bin(mode, BandCarrier(mode.total_carriers() - 1));
     out[at] = edge.0 as u32;

@@ -11,57 +11,54 @@ ghost use Rattle.tables.specs.Rows.{carrier_randomize};
 ghost use Rattle.tables.specs.Places.{tmcc_of, ac1_of, ac2_of, init_of};
 ghost use Rattle.params.specs.Params.{data_carriers_per_segment};
 
+use ofdm::Segment;
 use params::{Mode, SegmentKind};
 
 // TMCC places of a segment, ascending.
-pub fn tmcc_positions(mode: Mode, kind: SegmentKind, row: usize) -> &'static [u16]
-    requires { row < 13 }
-    ensures { result.now ≡ tmcc_of mode kind row }
+pub fn tmcc_positions(mode: Mode, kind: SegmentKind, seg: Segment) -> &'static [u16]
+    ensures { result.now ≡ tmcc_of mode kind seg.number }
 {
     match (kind, mode) {
-        (SegmentKind::Coherent, Mode::M1) => &standard::COH_TMCC_M1[row],
-        (SegmentKind::Coherent, Mode::M2) => &standard::COH_TMCC_M2[row],
-        (SegmentKind::Coherent, Mode::M3) => &standard::COH_TMCC_M3[row],
-        (SegmentKind::Differential, Mode::M1) => &standard::DIFF_TMCC_M1[row],
-        (SegmentKind::Differential, Mode::M2) => &standard::DIFF_TMCC_M2[row],
-        (SegmentKind::Differential, Mode::M3) => &standard::DIFF_TMCC_M3[row],
+        (SegmentKind::Coherent, Mode::M1) => &standard::COH_TMCC_M1[seg.number],
+        (SegmentKind::Coherent, Mode::M2) => &standard::COH_TMCC_M2[seg.number],
+        (SegmentKind::Coherent, Mode::M3) => &standard::COH_TMCC_M3[seg.number],
+        (SegmentKind::Differential, Mode::M1) => &standard::DIFF_TMCC_M1[seg.number],
+        (SegmentKind::Differential, Mode::M2) => &standard::DIFF_TMCC_M2[seg.number],
+        (SegmentKind::Differential, Mode::M3) => &standard::DIFF_TMCC_M3[seg.number],
     }
 }
 
 // AC1 places of a segment, ascending, the same in both kinds.
-pub fn ac1_positions(mode: Mode, kind: SegmentKind, row: usize) -> &'static [u16]
-    requires { row < 13 }
-    ensures { result.now ≡ ac1_of mode kind row }
+pub fn ac1_positions(mode: Mode, kind: SegmentKind, seg: Segment) -> &'static [u16]
+    ensures { result.now ≡ ac1_of mode kind seg.number }
 {
     match mode {
-        Mode::M1 => &standard::AC1_M1[row],
-        Mode::M2 => &standard::AC1_M2[row],
-        Mode::M3 => &standard::AC1_M3[row],
+        Mode::M1 => &standard::AC1_M1[seg.number],
+        Mode::M2 => &standard::AC1_M2[seg.number],
+        Mode::M3 => &standard::AC1_M3[seg.number],
     }
 }
 
 // AC2 places of a segment, ascending. A coherent one has none.
-pub fn ac2_positions(mode: Mode, kind: SegmentKind, row: usize) -> &'static [u16]
-    requires { row < 13 }
-    ensures { result.now ≡ ac2_of mode kind row }
+pub fn ac2_positions(mode: Mode, kind: SegmentKind, seg: Segment) -> &'static [u16]
+    ensures { result.now ≡ ac2_of mode kind seg.number }
 {
     match (kind, mode) {
         (SegmentKind::Coherent, _) => &[],
-        (SegmentKind::Differential, Mode::M1) => &standard::DIFF_AC2_M1[row],
-        (SegmentKind::Differential, Mode::M2) => &standard::DIFF_AC2_M2[row],
-        (SegmentKind::Differential, Mode::M3) => &standard::DIFF_AC2_M3[row],
+        (SegmentKind::Differential, Mode::M1) => &standard::DIFF_AC2_M1[seg.number],
+        (SegmentKind::Differential, Mode::M2) => &standard::DIFF_AC2_M2[seg.number],
+        (SegmentKind::Differential, Mode::M3) => &standard::DIFF_AC2_M3[seg.number],
     }
 }
 
 // The sign register's first state in a segment, D1 in the highest of eleven bits.
-pub fn prbs_segment_init(mode: Mode, row: usize) -> u16
-    requires { row < 13 }
-    ensures { result ≡ init_of mode row }
+pub fn prbs_segment_init(mode: Mode, seg: Segment) -> u16
+    ensures { result ≡ init_of mode seg.number }
 {
     match mode {
-        Mode::M1 => standard::PRBS_INIT_M1[row],
-        Mode::M2 => standard::PRBS_INIT_M2[row],
-        Mode::M3 => standard::PRBS_INIT_M3[row],
+        Mode::M1 => standard::PRBS_INIT_M1[seg.number],
+        Mode::M2 => standard::PRBS_INIT_M2[seg.number],
+        Mode::M3 => standard::PRBS_INIT_M3[seg.number],
     }
 }
 

@@ -63,7 +63,7 @@ fn soft_value(layout: FrameLayout, spectra: &[f32], filter: Option<SegmentKind>)
         let seg = ofdm::segment_at_position(place);
         let kind = layout.kind(seg);
         if passes(filter, kind) {
-            let row = tables::tmcc_positions(mode, kind, seg.0);
+            let row = tables::tmcc_positions(mode, kind, seg);
             sum = add_places(sum, mode, place, row, spectra);
         }
     }

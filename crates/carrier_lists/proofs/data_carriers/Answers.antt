@@ -6,9 +6,9 @@ use Rattle.carrier_lists.proofs.data_carriers.Goals as goal
 
 pub collect_data-requires : goal.collect_data-requires
 collect_data-requires c =
-    data_room c.args.layout.mode c.args.phase (kind_codes c.args.layout.kinds) _ c.band-roles.ensures _ c.total_carriers-k.ensures _ c.requires.0 c.requires.1
+    data_room c.args.layout.mode c.args.phase.number (kind_codes c.args.layout.kinds) _ c.band-roles.ensures _ c.total_carriers-k.ensures _ c.args.phase.in_cycle c.requires
 
 pub returns : goal.returns
 returns c =
     let args = c.args in
-    data_stored args.layout.mode args.phase (kind_codes args.layout.kinds) _ c.band-roles.ensures _ c.total_carriers-k.ensures _ c.collect_data.ensures
+    data_stored args.layout.mode args.phase.number (kind_codes args.layout.kinds) _ c.band-roles.ensures _ c.total_carriers-k.ensures _ c.collect_data.ensures

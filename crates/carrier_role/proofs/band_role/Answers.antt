@@ -38,6 +38,6 @@ module _ (mode : Mode) (kinds : List ℕ) (phase k edge : ℕ) (inside : k < tot
 pub returns : goal.returns
 returns c =
     let a = c.args in
-    of_place a.layout.mode (kind_codes a.layout.kinds) a.phase a.k.0 _ c.requires c.first_carrier-edge.ensures c.if-k-edge.false
-    _ _ _ _ _ c.carrier_place-at.ensures.place c.segment_at_position-seg.ensures.0 c.carrier_place-at.ensures.p c.kind.ensures
+    of_place a.layout.mode (kind_codes a.layout.kinds) a.phase.number a.k.0 _ c.requires c.first_carrier-edge.ensures c.if-k-edge.false
+    _ _ _ _ _ c.carrier_place-at.ensures.place c.segment_at_position-seg.ensures c.carrier_place-at.ensures.p c.kind.ensures
     c.place_role.ensures

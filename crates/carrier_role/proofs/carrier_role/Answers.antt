@@ -11,8 +11,10 @@ returns-in_err-layout c =
     let p = err_from_is_err_and c.from_residual.result c.from_residual.ensures.1 in
     rw (p.1, p.2) (refused_layout _ _ _ _ _ c.in_err-layout.ensures)
 
-pub returns-then-phase-gt3 : goal.returns-then-phase-gt3
-returns-then-phase-gt3 c = refused_phase _ _ _ c.in_ok-layout.ensures c.if-phase-gt3.true
+pub returns-in_err-phase : goal.returns-in_err-phase
+returns-in_err-phase c =
+    let p = err_from_is_err_and c.from_residual-in_err-phase.result c.from_residual-in_err-phase.ensures.1 in
+    rw (p.1, p.2, c.in_err-phase.ensures.1) (refused_phase _ _ _ c.in_ok-layout.ensures c.in_err-phase.ensures.0)
 
 pub returns-then-total_carriers-k : goal.returns-then-total_carriers-k
 returns-then-total_carriers-k c =
@@ -21,4 +23,6 @@ returns-then-total_carriers-k c =
 
 pub returns : goal.returns
 returns c =
-    answered _ _ _ c.in_ok-layout.ensures c.if-phase-gt3.false _ (rw c.total_carriers.ensures at c.if-total_carriers-k.false) c.band_role.ensures
+    let in_phases : c.args.phase ≤ 3 = omega arith in
+    answered _ _ _ c.in_ok-layout.ensures in_phases _ (rw c.total_carriers.ensures at c.if-total_carriers-k.false)
+    (rw (← c.in_ok-phase.ensures) at c.band_role.ensures)

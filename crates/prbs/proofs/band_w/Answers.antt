@@ -8,7 +8,7 @@ use Rattle.prbs.proofs.band_w.Goals as goal
 
 pub loop-place-preserved : goal.loop-place-preserved
 loop-place-preserved c =
-    let e = c.segment_w.ensures ∙ ap (segment_signs _) c.segment_at_position-seg.ensures.0 in
+    let e = c.segment_w.ensures ∙ ap (segment_signs _) c.segment_at_position-seg.ensures in
     again _ _ _ _ _ _ _ c.loop-place.invariant _ c.first_carrier-from.ensures c.loop-place-test.true _ _ (omega arith) e refl
 
 pub returns : goal.returns

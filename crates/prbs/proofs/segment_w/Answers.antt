@@ -6,4 +6,4 @@ use Rattle.prbs.proofs.segment_w.Goals as goal
 pub returns : goal.returns
 unfolding segment_signs
 returns c =
-    rw (← c.prbs_segment_init-row.ensures, ← c.init.ensures, ← c.requires.1) c.run_register.ensures
+    rw (← c.prbs_segment_init-row.ensures, ← c.init.ensures, ← c.requires) c.run_register.ensures

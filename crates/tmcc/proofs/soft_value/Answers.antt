@@ -13,18 +13,18 @@ loop-number-init c = begin c.args.layout.mode (kind_codes c.args.layout.kinds) (
 
 pub add_places-sum-requires : goal.add_places-sum-requires
 add_places-sum-requires c =
-    addable c.kind-kind.result c.loop-number-test.true c.requires c.segment_at_position-seg.ensures.1 c.tmcc_positions-row.ensures
+    addable c.kind-kind.result c.loop-number-test.true c.requires c.segment_at_position-seg.result.in_band c.tmcc_positions-row.ensures
 
 pub loop-number-preserved : goal.loop-number-preserved
 loop-number-preserved c =
     elim c.if-passes.branch [
       | then-passes w ↦
           rw w.sum-is
-          (further _ _ _ _ _ _ c.loop-number.invariant _ _ _ c.segment_at_position-seg.ensures.0 c.kind-kind.ensures c.passes.ensures
+          (further _ _ _ _ _ _ c.loop-number.invariant _ _ _ c.segment_at_position-seg.ensures c.kind-kind.ensures c.passes.ensures
           _ _ w.if-passes.true w.tmcc_positions-row.ensures w.add_places-sum.ensures)
       | else-passes w ↦
           rw w.sum-is
-          (skip _ _ _ _ _ _ c.loop-number.invariant _ _ _ c.segment_at_position-seg.ensures.0 c.kind-kind.ensures c.passes.ensures
+          (skip _ _ _ _ _ _ c.loop-number.invariant _ _ _ c.segment_at_position-seg.ensures c.kind-kind.ensures c.passes.ensures
           w.if-passes.false)
     ]
 

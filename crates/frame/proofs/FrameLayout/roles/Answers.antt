@@ -28,7 +28,7 @@ module _ (mode : Mode) (phase : ℕ) (kinds : List ℕ) where
   whole out o = o ∙ ap (λ (z : List ℕ). z ++ (role_byte EdgeCp ∷ [])) (sym (joined_map (segment_roles mode phase) (wide_segment kinds) order))
 
 pub loop-place-init : goal.loop-place-init
-loop-place-init c = begin _ _ _ _ _ c.carriers_per_segment-c.ensures c.requires.1
+loop-place-init c = begin _ _ _ _ _ c.carriers_per_segment-c.ensures c.requires
 
 pub overflow_add-to : goal.overflow_add-to
 overflow_add-to c =
@@ -41,16 +41,11 @@ slice_bounds-segment_roles-end c =
     omega (arith, part_ends _ _ _ _ _ _ _ w _ c.first_carrier-from.ensures c.loop-place-test.true, w.same_size)
 
 pub segment_roles-requires : goal.segment_roles-requires
-segment_roles-requires c =
-    record {
-      row_below = c.segment_at_position-seg.ensures.1;
-      phase_below = c.requires.0;
-      room = part_size _ _ _ _ _ _ _ c.loop-place.invariant _ c.first_carrier-from.ensures c.loop-place-test.true;
-    }
+segment_roles-requires c = part_size _ _ _ _ _ _ _ c.loop-place.invariant _ c.first_carrier-from.ensures c.loop-place-test.true
 
 pub loop-place-preserved : goal.loop-place-preserved
 loop-place-preserved c =
-    let seg = c.segment_at_position-seg.ensures.0 in
+    let seg = c.segment_at_position-seg.ensures in
     let e = of_segment _ _ (kind_codes c.args.self.kinds) c.loop-place.place _ _ _ seg c.kind.ensures c.segment_roles.ensures in
     again _ _ _ _ _ _ _ c.loop-place.invariant _ c.first_carrier-from.ensures c.loop-place-test.true _ _ c.out-1.given.1 e refl
 

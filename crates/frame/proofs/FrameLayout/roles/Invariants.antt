@@ -20,4 +20,4 @@ module _ (mode : Mode) (phase : ℕ) (kinds : List ℕ) where
 
 abbrev pub invariant-loop-place : goal.invariant-loop-place
 invariant-loop-place l =
-    WrittenTo l.mode (roles_of l.mode l.phase (kind_codes l.self.kinds)) (size l.mode l.phase (kind_codes l.self.kinds)) l.initial.out l.c l.place l.out
+    WrittenTo l.mode (roles_of l.mode l.phase.number (kind_codes l.self.kinds)) (size l.mode l.phase.number (kind_codes l.self.kinds)) l.initial.out l.c l.place l.out
