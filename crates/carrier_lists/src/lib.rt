@@ -90,7 +90,7 @@ fn band(layout: FrameLayout, phase: Phase) -> [u8; 5617]
 {
     let mode = layout.mode;
     let k = mode.total_carriers();
-    let mut buffer = ofdm::zero_band();
+    let mut buffer = [0u8; 5617];
     layout.roles(phase, &mut buffer[..k]);
     buffer
 }

@@ -158,7 +158,7 @@ fn write_grid(layout: FrameLayout, spectra: &[f32], current: Current, out: &mut 
     let mode = layout.mode;
     let win = window_of(mode, spectra, current);
     let k = win.len;
-    let mut buffer = prbs::sign_buffer();
+    let mut buffer = [0u8; 5617];
     prbs::band_w(mode, &mut buffer[..k]);
     let capture = Capture {
         win,

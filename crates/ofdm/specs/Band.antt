@@ -53,11 +53,6 @@ center_carrier m = (total_carriers m - 1) / 2
 abbrev pub bin_of : Mode → ℕ → ℕ
 bin_of m k = (k + (fft_size m - center_carrier m)) % fft_size m
 
--- room for a byte for each carrier of the largest band: zeros, said entry by entry, so that nobody has to look at 5,617 of them
-pub record ZeroBand (buffer : List ℕ) : Type 0 where
-  pub size : 5617 ≡ length buffer
-  pub zeros : (i : ℕ) → i < 5617 → get_or buffer i 1 ≡ 0
-
 -- the lookup's answer for every input: the bin, or its refusal, first for a bad mode, then for k at or above k_total
 abbrev pub bin_lookup : Option Mode → ℕ → Result FftBin Refusal
 bin_lookup None k = Err BadMode

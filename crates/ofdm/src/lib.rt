@@ -5,7 +5,7 @@
 
 ghost use Rattle.std.specs.Prelude.{◌≡◌, ◌<◌, ◌≤◌, ◌+◌, ◌*◌, ◌%◌};
 ghost use Rattle.params.specs.Params.{mode_from, carriers_per_segment, total_carriers};
-ghost use Rattle.ofdm.specs.Band.{segment_at, place_of, first_carrier, carrier_at, Placed, bin_of, ZeroBand, BinLookedUp};
+ghost use Rattle.ofdm.specs.Band.{segment_at, place_of, first_carrier, carrier_at, Placed, bin_of, BinLookedUp};
 
 use params::{Mode, Refusal};
 
@@ -112,13 +112,6 @@ pub fn moved_up(bin: FftBin, up: usize, n: usize) -> FftBin
         return FftBin(far);
     }
     FftBin(far - n)
-}
-
-// Room for a byte for each carrier of the largest band.
-pub fn zero_band() -> [u8; 5617]
-    ensures { ZeroBand result }
-{
-    [0; 5617]
 }
 
 // The FFT bin of carrier k in a mode that is given by its number: refused by 1 for a bad mode, by

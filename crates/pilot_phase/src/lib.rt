@@ -64,7 +64,7 @@ fn band_votes(layout: FrameLayout, spectra: &[f32]) -> VoteCounts
 {
     let mode = layout.mode;
     let k = mode.total_carriers();
-    let mut buffer = prbs::sign_buffer();
+    let mut buffer = [0u8; 5617];
     prbs::band_w(mode, &mut buffer[..k]);
     count_votes(layout, spectra, &buffer[..k])
 }

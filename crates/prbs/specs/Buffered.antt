@@ -7,7 +7,7 @@ use Rattle.lists.specs.Select.{length_up_to, length_joined}
 use Rattle.params.specs.declared.Mode.{Mode}
 use Rattle.params.specs.Params.{carriers_per_segment, total_carriers}
 use Rattle.params.specs.Laws.{sized}
-use Rattle.ofdm.specs.Band.{order, ZeroBand}
+use Rattle.ofdm.specs.Band.{order}
 use Rattle.prbs.specs.Signs.{segment_signs, edge_sign, band_signs}
 
 pub signs_length : (mode : Mode) → length (band_signs mode) ≡ total_carriers mode
@@ -16,9 +16,9 @@ signs_length mode =
     let parts = length_joined (segment_signs mode) (carriers_per_segment mode) 0 order (λ i l. length_up_to _ (carriers_per_segment mode)) in
     omega (arith, length-append (joined (segment_signs mode) order) (edge_sign mode ∷ []), parts, (sized mode).band)
 
-module _ (m : Mode) {k : ℕ} (sizes : k ≡ total_carriers m) (buffer : List ℕ) (b : ZeroBand buffer) where
+module _ (m : Mode) {k : ℕ} (sizes : k ≡ total_carriers m) (buffer : List ℕ) (large : 5617 ≤ length buffer) where
   pub room : k ≤ length buffer
-  room = omega (arith, b.size, (sized m).band_high)
+  room = omega (arith, (sized m).band_high)
 
   pub front_length : length (take k buffer) ≡ k
   front_length = length-take-le k buffer room

@@ -5,7 +5,6 @@
 ghost use Rattle.std.specs.Prelude.{◌≡◌, ◌<◌, length};
 ghost use Rattle.lists.specs.Lists.{up_to};
 ghost use Rattle.params.specs.Params.{mode_from, code_of, carriers_per_segment, total_carriers};
-ghost use Rattle.ofdm.specs.Band.{ZeroBand};
 ghost use Rattle.prbs.specs.Signs.{loaded, Step, sign_after, segment_signs, band_signs, edge_sign};
 ghost use Rattle.prbs.specs.SignMap.{SignMap};
 
@@ -82,13 +81,6 @@ pub fn edge_w(mode: Mode) -> u8
         Mode::M2 => 0,
         Mode::M3 => 0,
     }
-}
-
-// Room for the signs of the largest band, all zeros.
-pub fn sign_buffer() -> [u8; 5617]
-    ensures { ZeroBand result }
-{
-    ofdm::zero_band()
 }
 
 // W of all carriers of the band, segment after segment from the lowest place.
