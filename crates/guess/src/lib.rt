@@ -12,7 +12,7 @@ use correlation::Window;
 use params::Refusal;
 
 // A guess: codes of mode and guard, the offset of a guard's start, the metric, and both parts of the
-// summed correlation.
+// summed correlation. The codes stay numbers, as they were lent: a C host is handed them back.
 #[derive(Clone, Copy)]
 pub struct ModeGuess {
     pub mode: u8,

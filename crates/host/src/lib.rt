@@ -1,6 +1,6 @@
-// The functions of the C library, which crates/host_c hands to C: a thin one for each operation. An
-// answer is given through `&mut` numbers. Each returns 0 or the refusal's number, and a refusal leaves
-// everything lent as it was. The float functions at the end refuse nothing and return their value.
+// The functions of the C library, which crates/host_c hands to C: a thin one for each operation. C has no
+// Result, so an answer is given through `&mut` numbers, and each returns 0 or the refusal's number. A
+// refusal leaves everything lent as it was. The float functions at the end refuse nothing and return their value.
 #![tactic(auto)]
 
 ghost use Rattle.std.specs.Prelude.{◌≡◌, length};

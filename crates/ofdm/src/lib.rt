@@ -28,7 +28,8 @@ pub struct Segment {
     ghost in_band: { number < 13 },
 }
 
-// A segment's place in the band, 0 to 12 from the lowest frequency.
+// A segment's place in the band, 0 to 12 from the lowest frequency. No ghost field says so: place 13,
+// behind the last segment, is asked for too.
 #[derive(Clone, Copy)]
 pub struct BandPlace(pub usize);
 

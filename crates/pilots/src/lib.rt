@@ -11,7 +11,8 @@ use complex::C32;
 // Pilot amplitude 4/3 (Tables 3-17 and 3-19).
 const PILOT_AMPLITUDE: f32 = 1.3333334;
 
-// BPSK pilot value of W (Table 3-17): 1 is -4/3, 0 is +4/3.
+// BPSK pilot value of W (Table 3-17): 1 is -4/3, 0 is +4/3. W stays a number: it is a digit of the
+// register, and a byte of the map that a C host lends.
 pub fn pilot_value(w: u8) -> C32
     ensures { of32 result ≡ pilot_value w }
 {

@@ -148,7 +148,8 @@ pub fn number_at(bytes: &[u8], at: usize) -> u16
     u16::from_le_bytes([bytes[at], bytes[at + 1]])
 }
 
-// The numbers of four and of eight bytes.
+// The numbers of four and of eight bytes. From those of two, as they are defined: `from_le_bytes` would
+// name every index.
 fn word_at(bytes: &[u8], at: usize) -> u32
     requires { at + 4 ≤ length bytes.now }
     ensures { result ≡ word_at bytes.now at }

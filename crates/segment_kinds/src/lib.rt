@@ -13,7 +13,7 @@ use params::{Mode, Refusal, SegmentKind};
 
 const HALF: f32 = 0.5;
 
-// Kinds and their scores, by segment number.
+// Kinds and their scores, by segment number: two lists, as a C host lends them.
 #[derive(Clone, Copy)]
 pub struct DetectedKinds {
     pub kinds: [SegmentKind; 13],
