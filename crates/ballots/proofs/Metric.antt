@@ -47,10 +47,6 @@ none_yet mode y next r j s e =
 abbrev before : Mode → List ℕ → ℕ → ℕ → List ℕ
 before mode kinds phase place = joined (segment_pilots mode kinds phase) (take place order)
 
--- the lowest pilot of a segment has a place in it
-pub lowest_below : (mode : Mode) (phase : ℕ) → phase < 4 → 3 * phase < carriers_per_segment mode
-lowest_below mode phase l = omega (arith, (sized mode).carriers_low)
-
 -- the run is over them; c is the code's count of a segment's carriers
 pub record WalkedTo (mode : Mode) (kinds : List ℕ) (y : List Float) (phase c place : ℕ) (run : Run) : Type 0 where
   pub carriers : c ≡ carriers_per_segment mode

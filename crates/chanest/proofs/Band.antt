@@ -4,17 +4,16 @@
 use Prim.Native.Nat.{ℕ, ◌+◌, ◌*◌, ◌-◌, ◌/◌, ◌%◌, ◌≤◌, ◌<◌}
 use mathlib.Core.Bool.{Bool, true, false, cond, ◌&&◌}
 use mathlib.Core.List.{List}
-use mathlib.Core.Path.{◌≡◌, refl, sym, ap, ◌∙◌}
+use mathlib.Core.Path.{◌≡◌, sym, ap, ◌∙◌}
 use native.Mathlib.Decide.{dec_lt}
 use native.Mathlib.Nat.{suc-mul, zero-mul, mul-le-mul_right}
 use native.Mathlib.Numerals.{add-one}
 use native.Mathlib.Omega.{arith}
-use borrow.Author.Tests.{eq-eqb, ne_eqb, lt-ltb, le-ltb, ltb-true}
+use borrow.Author.Tests.{eq-eqb, ne_eqb, lt-ltb, le-ltb}
 use lib.Arith.{digits_div, digits_mod}
 use lib.Dec.{eqb, ltb}
 use lib.ListN.{length}
 use lib.Ieee.{Float}
-use Rattle.lists.specs.Tests.{both_left}
 use Rattle.params.specs.declared.Mode.{Mode}
 use Rattle.params.specs.Laws.{sized}
 use Rattle.complex.specs.Complex.{Pair}
@@ -24,7 +23,7 @@ use Rattle.pilot_times.specs.declared.Window.{Window}
 use Rattle.chanest.specs.Grid.{segment_points, grid_points, coherent_at, scattered_at, continual_at, value_at, grid_of}
 use Rattle.chanest.specs.Places.{pointed}
 use Rattle.chanest.specs.Inner.{Written, Writable}
-use Rattle.chanest.proofs.Writing.{kept, nothing, together, exchanged, whole}
+use Rattle.chanest.proofs.Writing.{kept, together, exchanged, whole}
 use Rattle.chanest.proofs.Points.{again}
 
 -- whether the place below is coherent
@@ -115,9 +114,6 @@ module _ (mode : Mode) (kinds : List ℕ) (xs : List Float) (current : Current) 
     pub under : below ≡ closes_at kinds place
     pub lower : Written (value entry) 0 (place * n) entry now
 
-  pub begin : WrittenTo 0 false entry
-  begin = record { passed = omega arith; under = refl; lower = rw zero-mul (nothing (value entry) 0 entry) }
-
   -- behind the last place lies the whole grid
   pub all : {place : ℕ} {below : Bool} {now : List Float} → WrittenTo place below now → 14 ≤ place → length entry ≡ 2 * grid_points mode
       → now ≡ grid_of mode kinds xs current entry
@@ -154,12 +150,6 @@ module _ (mode : Mode) (kinds : List ℕ) (xs : List Float) (current : Current) 
 
   pub still : {win : Window} {signs : List ℕ} → Writable mode win xs signs entry → Writable mode win xs signs now
   still W = again W now w.lower.size
-
-  -- a coherent place is no edge, and its points end within the band
-  pub part_ends : coherent_at kinds place ≡ true → from + m ≤ 13 * m
-  part_ends e =
-      let within : place < 13 = ltb-true _ _ (both_left (ltb place 13) _ e) in
-      rw at (rw suc-mul at (mul-le-mul_right m within))
 
   pub low : from ≤ 13 * m
   low = rw at (mul-le-mul_right m (omega arith))

@@ -18,17 +18,12 @@ use Rattle.pilot_times.specs.declared.Offsets.{Offsets}
 use Rattle.pilot_times.specs.declared.Times.{Times}
 use Rattle.pilot_times.specs.declared.Scattered.{Scattered}
 use Rattle.pilot_times.specs.Window.{scattered_offsets, in_window}
-use Rattle.pilot_times.specs.Inner.{spectra_of, TimesOf, ScatteredTimes}
+use Rattle.pilot_times.specs.Inner.{TimesOf, ScatteredTimes}
 use Rattle.pilot_line.specs.Estimate.{inverse_of, estimate_of}
 use Rattle.chanest.specs.Grid.{carrier_of, back_of, segment_points, estimate_at}
 use Rattle.chanest.specs.Places.{pointed}
 use Rattle.chanest.specs.Inner.{Placed, point_by, Writable, Written}
 use Rattle.chanest.proofs.Writing.{nothing, one_more}
-
--- the estimate at carrier k, which is point i's, is what its pilots give
-pub estimated : (win : Window) (times : Times) (xs : List Float) (signs : List ℕ) (i : ℕ) {k : BandCarrier} {v : Pair} → k ≡ carrier_of i
-    → v ≡ estimate_of win xs k (inverse_of (get_or signs k.0 0)) (spectra_of times.sent) → v ≡ point_by win times xs signs i
-estimated win times xs signs i at e = e ∙ rw at
 
 -- the estimate at carrier k of a window, whose pilot is sent at the offsets o
 abbrev pub window_at : Window → List Float → List ℕ → BandCarrier → Offsets → Pair

@@ -1,20 +1,19 @@
 -- What the tests on the way to a return make of the definition of `detect_sp_phase`.
 -- Assumes nothing.
-use Rattle.std.proofs.Common.{Option, None, Result, Ok, Err}
+use Rattle.std.proofs.Common.{Option, None, Ok, Err}
 use Prim.Native.Nat.{ℕ, ◌*◌, ◌/◌, ◌≤◌}
 use mathlib.Core.Bool.{true, false}
 use mathlib.Core.List.{List}
-use mathlib.Core.Path.{◌≡◌, refl, sym, ap, ◌∙◌}
+use mathlib.Core.Path.{◌≡◌, refl, sym}
 use native.Mathlib.Omega.{arith}
-use borrow.Author.Tests.{eqb-true, leb-true, not-false, not-true}
+use borrow.Author.Tests.{not-false, not-true}
 use lib.Dec.{eqb}
 use lib.ListN.{length, get_or}
 use lib.Ieee.{Float}
-use Rattle.lists.specs.Tests.{both_left, both_right}
 use Rattle.params.specs.declared.Mode.{Mode}
 use Rattle.params.specs.declared.Refusal.{Refusal}
 use Rattle.params.specs.declared.Refusal.TheVariants.{NotWhole}
-use Rattle.params.specs.Params.{total_carriers, code_of, kind_codes}
+use Rattle.params.specs.Params.{total_carriers, kind_codes}
 use Rattle.spectra.specs.Spectra.{are_spectra}
 use Rattle.frame.specs.declared.FrameLayout.{FrameLayout}
 use Rattle.frame.specs.Inner.{Accepted, RefusedLayout}
@@ -25,9 +24,9 @@ use Rattle.ballots.specs.Inner.{some_pilots}
 use Rattle.pilot_phase.specs.declared.PilotAnswer.{PilotAnswer}
 use Rattle.pilot_phase.specs.declared.VoteCounts.{VoteCounts}
 use Rattle.pilot_phase.specs.PilotPhase.{votes, count_of, phase_of, no_counts}
-use Rattle.pilot_phase.specs.PilotPhase.{phase_code, detected, phase_answer, counts_answer, lead_answer, phase_in, PhaseDetected}
+use Rattle.pilot_phase.specs.PilotPhase.{phase_code, detected, phase_answer, counts_answer, lead_answer, PhaseDetected}
 use Rattle.pilot_phase.specs.Inner.{Whole, VoteCountsOf, Counted, told, accepted_counts, pilot_answer}
-use Rattle.pilot_phase.specs.Facts.{phase_number_lem, counts_at}
+use Rattle.pilot_phase.specs.Facts.{counts_at}
 use Rattle.pilot_phase.proofs.Counting.{votes_few}
 
 -- ---- an accepted call
@@ -55,16 +54,6 @@ module _ (m : Mode) (kinds : List ℕ) (xs : List Float) where
       let some : eqb (length (pilots m kinds 0)) 0 ≡ false = not-true _ p in
       let n : length xs / (2 * k) ≡ length (ballots m kinds xs) = rw e (sym (ballots_length m kinds xs)) in
       rw (some, n, c.all, c.heard)
-
--- ---- what an answer makes
-made : (number : Option Mode) (kinds : List ℕ) (xs : List Float) (r : Result PilotAnswer Refusal) → phase_in r ≡ phase_answer number kinds xs
-    → code_of r ≡ phase_code number kinds (length xs)
-made number kinds xs (Ok answer) a = ap code_of a ∙ phase_number_lem number kinds xs
-made number kinds xs (Err refusal) a = ap code_of a ∙ phase_number_lem number kinds xs
-
--- the floats of an accepted call are whole spectra
-pub whole : (m : Mode) (n : ℕ) → are_spectra (total_carriers m) n ≡ true → Whole m n
-whole m n e = record { whole = eqb-true _ _ (both_left _ _ e); few = leb-true _ _ (both_right _ _ e) }
 
 module _ (kinds : List ℕ) (xs : List Float) where
   pub refused_layout : (number : Option Mode) (refusal : Refusal) → RefusedLayout number kinds refusal → PhaseDetected number kinds xs (Err refusal)

@@ -12,8 +12,8 @@ use borrow.Author.Tests.{eq-eqb, ne_eqb}
 use mir.Val.{bool_byte}
 use Rattle.std.proofs.Common.{Fits, w32}
 use lib.Dec.{eqb}
-use lib.ListN.{length, get_or, take, drop, set, length-set, length-drop}
-use lib.Seq.{get_or-set_same, get_or-set_other, set-get_or, ext_get_or, length-take-le, get_or-take, get_or-drop}
+use lib.ListN.{length, get_or, take, drop, set, length-set}
+use lib.Seq.{get_or-set_same, get_or-set_other, set-get_or, ext_get_or, get_or-take, get_or-drop}
 use lib.Ieee.{Float, nan}
 use Rattle.lists.specs.Lists.{up_to}
 use Rattle.lists.specs.Select.{length_up_to}
@@ -27,7 +27,6 @@ use Rattle.pilot_phase.specs.PilotPhase.{vote_of, votes_from, votes, heard_votes
 use Rattle.pilot_phase.specs.Facts.{votes_length, counts_length, counts_at, count_few, count_append, votes_more}
 use Rattle.pilot_phase.specs.Heard.{heard_more, heard_few}
 use Rattle.ballots.specs.Changed.{ballot_alike}
-use Rattle.ballots.specs.Inner.{Spectrum}
 use Rattle.pilot_phase.specs.Inner.{Votable, VoteCountsOf}
 
 -- ---- a vote more
@@ -120,11 +119,6 @@ module _ (xs : List Float) {mode : Mode} {w : ℕ} (floats : w ≡ 2 * total_car
 
   width : j * w + w - j * w ≡ w
   width = omega arith
-
-  pub spectrum : Spectrum mode (length part) signs
-  spectrum =
-      let size : length part ≡ w = rw width (length-take-le w (drop (j * w) xs) (rw (length-drop (j * w) xs) (omega (arith, within)))) in
-      record { floats = size ∙ floats; signed = p.signed }
 
   float_at : (i : ℕ) → i < w → get_or part i nan ≡ get_or xs (j * w + i) nan
   float_at i l = rw (width, get_or-take w (drop (j * w) xs) i nan l, get_or-drop (j * w) xs i nan)

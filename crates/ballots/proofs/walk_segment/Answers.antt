@@ -2,9 +2,13 @@
 -- Assumes nothing.
 use Prim.Native.Nat.{◌+◌, ◌-◌}
 use mathlib.Core.Path.{◌≡◌}
+use native.Mathlib.Nat.{add-zero}
 use native.Mathlib.Omega.{arith}
-use Rattle.ballots.proofs.Walking.{one_walked}
+use Rattle.ballots.proofs.Walking.{none_walked, one_walked}
 use Rattle.ballots.proofs.walk_segment.Goals as goal
+
+pub loop-i-init : goal.loop-i-init
+loop-i-init c = (rw add-zero c.pilot_at-pilot.ensures, none_walked)
 
 pub loop-i-preserved : goal.loop-i-preserved
 loop-i-preserved c =
