@@ -74,14 +74,12 @@ module _ {mode : Mode} {kinds : List ℕ} {y : List Float} {phase c : ℕ} where
       ends : (place * c + c < total_carriers mode) × (12 * (c / 12) ≡ c)
       ends = (rw w.carriers (segment_ends mode place h), omega (arith, w.carriers, twelves mode))
 
-      pub walkable : {signs : List ℕ} → Spectrum mode (length y) signs → Walkable k (c / 12) (length y) (length signs)
+      pub walkable : {signs : List ℕ} → Spectrum mode (length y) signs → Walkable k (c / 12) (length signs)
       walkable {signs} p =
           let size : length signs ≡ total_carriers mode = ap length p.signed ∙ signs_length mode in
           record {
             some = omega (arith, w.carriers, (sized mode).carriers_low);
             inside = omega (arith, from, ends);
-            floats = omega (arith, p.floats);
-            small = omega (arith, (sized mode).band_high);
           }
 
       pub again_coherent : {r : Run} {signs : List ℕ} → signs ≡ band_signs mode → kind_from (get_or kinds (segment_at place) 0) ≡ Coherent

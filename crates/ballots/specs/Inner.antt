@@ -72,12 +72,10 @@ pub record Walked (mode : Mode) (y : ℕ → Pair) (ks : List ℕ) (next : ℕ) 
   pub energy : r.energy ≡ energy_sum mode y (twelve_apart ks)
   pub ends : Ends mode y ks next r.last
 
--- count carriers from the lowest on, at least one, 12 apart, lie within a spectrum of n floats with m signs: the last is below m
-pub record Walkable (lowest count n m : ℕ) : Type 0 where
+-- count carriers from the lowest on, at least one, 12 apart, lie within a spectrum of m carriers: the last is below m
+pub record Walkable (lowest count m : ℕ) : Type 0 where
   pub some : 0 < count
   pub inside : lowest + 12 * count < m + 12
-  pub floats : n ≡ 2 * m
-  pub small : m ≤ 5617
 
 -- the run s led on over such carriers, whatever was walked before
 pub record Walks (s : Run) (y : List Float) (signs : List ℕ) (lowest count : ℕ) (r : Run) : Type 0 where

@@ -77,70 +77,81 @@ impl Run {
     }
 }
 
-// The pilot at carrier k.
-fn pilot_at(y: &[f32], signs: &[u8], carrier: BandCarrier) -> Pilot
-    requires { (carrier.0 < length signs.now) × (length y.now ≡ 2 * length signs.now) × (length signs.now ≤ 5617) }
-    ensures { PilotAt y.now signs.now carrier.0 result }
-{
-    let k = carrier.0;
-    let x = spectra::pair_at(y, k);
-    let pilot = pilots::pilot_value(signs[k]);
-    let value = x.scale(pilot.re);
-    Pilot {
-        value,
-        square: value.wide_norm_sqr(),
-    }
+// A spectrum, and the sign of each of its carriers.
+#[derive(Clone, Copy)]
+struct Signed<'a> {
+    y: &'a [f32],
+    signs: &'a [u8],
+    ghost as_many: { length y.now ≡ 2 * length signs.now },
+    ghost few: { length signs.now ≤ 5617 },
 }
 
-// The pilots of a coherent segment from its lowest on: `count` of them, 12 carriers apart. Each is
-// read before the root of the one below it is taken: neither waits for the other, so the processor
-// works at both.
-fn walk_segment(start: Run, y: &[f32], signs: &[u8], lowest: BandCarrier, count: usize) -> Run
-    requires { Walkable lowest.0 count (length y.now) (length signs.now) }
-    ensures { Walks start y.now signs.now lowest.0 count result }
-{
-    let mut run = start;
-    let mut pilot = pilot_at(y, signs, lowest);
-    for i in 1..count {
-        let next = pilot_at(y, signs, BandCarrier(lowest.0 + 12 * i));
-        run = run.join(pilot);
-        pilot = next;
-    }
-    run.join(pilot)
-}
-
-// How coherent the pilots of a phase are in the spectrum y, if they have energy: a NaN is not above zero.
-fn phase_metric(layout: FrameLayout, y: &[f32], signs: &[u8], phase: Phase) -> Option<f32>
-    requires { Spectrum layout.mode (length y.now) signs.now }
-    ensures { result ≡ coherence layout.mode (kind_codes layout.kinds) (pair_at y.now) phase.number }
-{
-    let mode = layout.mode;
-    let c = mode.carriers_per_segment();
-    let mut run = Run {
-        last: None,
-        sum: C32::new(0.0, 0.0),
-        energy: 0.0,
-    };
-    for place in 0..13 {
-        let here = BandPlace(place);
-        match layout.kind(ofdm::segment_at_position(here)) {
-            SegmentKind::Coherent => {
-                let lowest = ofdm::band_carrier(
-                    mode,
-                    here,
-                    SegmentPlace(3 * phase.number as usize),
-                );
-                run = walk_segment(run, y, signs, lowest, c / 12);
-            }
-            SegmentKind::Differential => {
-                run = run.apart();
-            }
+impl Signed<'_> {
+    // The pilot at carrier k.
+    fn pilot_at(&self, carrier: BandCarrier) -> Pilot
+        requires { carrier.0 < length self.now.signs.now }
+        ensures { PilotAt self.now.y.now self.now.signs.now carrier.0 result }
+    {
+        let k = carrier.0;
+        let x = spectra::pair_at(self.y, k);
+        let pilot = pilots::pilot_value(self.signs[k]);
+        let value = x.scale(pilot.re);
+        Pilot {
+            value,
+            square: value.wide_norm_sqr(),
         }
     }
-    if run.energy > 0.0 {
-        Some(run.sum.re / run.energy)
-    } else {
-        None
+
+    // The pilots of a coherent segment from its lowest on: `count` of them, 12 carriers apart. Each is
+    // read before the root of the one below it is taken: neither waits for the other, so the processor
+    // works at both.
+    fn walk_segment(&self, start: Run, lowest: BandCarrier, count: usize) -> Run
+        requires { Walkable lowest.0 count (length self.now.signs.now) }
+        ensures { Walks start self.now.y.now self.now.signs.now lowest.0 count result }
+    {
+        let mut run = start;
+        let mut pilot = self.pilot_at(lowest);
+        for i in 1..count {
+            let next = self.pilot_at(BandCarrier(lowest.0 + 12 * i));
+            run = run.join(pilot);
+            pilot = next;
+        }
+        run.join(pilot)
+    }
+
+    // How coherent the pilots of a phase are, if they have energy: a NaN is not above zero.
+    fn phase_metric(&self, layout: FrameLayout, phase: Phase) -> Option<f32>
+        requires { Spectrum layout.mode (length self.now.y.now) self.now.signs.now }
+        ensures { result ≡ coherence layout.mode (kind_codes layout.kinds) (pair_at self.now.y.now) phase.number }
+    {
+        let mode = layout.mode;
+        let c = mode.carriers_per_segment();
+        let mut run = Run {
+            last: None,
+            sum: C32::new(0.0, 0.0),
+            energy: 0.0,
+        };
+        for place in 0..13 {
+            let here = BandPlace(place);
+            match layout.kind(ofdm::segment_at_position(here)) {
+                SegmentKind::Coherent => {
+                    let lowest = ofdm::band_carrier(
+                        mode,
+                        here,
+                        SegmentPlace(3 * phase.number as usize),
+                    );
+                    run = self.walk_segment(run, lowest, c / 12);
+                }
+                SegmentKind::Differential => {
+                    run = run.apart();
+                }
+            }
+        }
+        if run.energy > 0.0 {
+            Some(run.sum.re / run.energy)
+        } else {
+            None
+        }
     }
 }
 
@@ -149,11 +160,12 @@ pub fn ballot_of(layout: FrameLayout, y: &[f32], signs: &[u8]) -> Ballot
     requires { Spectrum layout.mode (length y.now) signs.now }
     ensures { result ≡ ballot_of layout.mode (kind_codes layout.kinds) (pair_at y.now) }
 {
+    let spectrum = Signed { y, signs };
     let mut best: u8 = 0;
     let mut metric = MINUS_ONE;
     let mut heard = false;
     for phase in 0..4 {
-        let found = phase_metric(layout, y, signs, Phase { number: phase });
+        let found = spectrum.phase_metric(layout, Phase { number: phase });
         // A phase without energy is compared by 0.0.
         let m = found.unwrap_or(0.0);
         if m > metric {

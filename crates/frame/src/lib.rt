@@ -4,7 +4,7 @@
 //
 // Carriers of a segment are counted from its lowest frequency, 0 to c - 1; those of the band from
 // carrier 0 of segment 11, the lowest place, up to the edge carrier above segment 12.
-// Kinds come in segment-number order. A refusal is a number and leaves the lent buffer untouched.
+// Kinds come in segment-number order. A refused call leaves the lent buffer untouched.
 #![tactic(auto)]
 
 ghost use Rattle.std.specs.Prelude.{◌≡◌, ◌<◌, length, get_or};

@@ -1,11 +1,21 @@
 -- `ballots::ballot_of` meets its contract: the best so far, and the phases ahead, come to the choice, and the symbol is heard where a phase has energy.
 -- Assumes nothing.
-use mathlib.Core.Path.{◌≡◌, refl, ◌∙◌}
+use mathlib.Core.Path.{◌≡◌, refl, ap, ◌∙◌}
+use lib.ListN.{length}
+use Rattle.params.specs.Params.{total_carriers}
+use Rattle.params.specs.Laws.{sized}
+use Rattle.prbs.specs.Buffered.{signs_length}
 use native.Mathlib.Omega.{arith}
 use Rattle.ballots.specs.Ballots.{choice_of, ballot_of}
 use Rattle.ballots.proofs.Chosen.{compared, found, take, pass, done, some_more, some_of_four}
 use Rattle.ballots.proofs.ballot_of.Goals as goal
 use Rattle.ballots.proofs.ballot_of.Goals.{then-m-metric, else-m-metric}
+
+pub invariant_of-spectrum : goal.invariant_of-spectrum
+invariant_of-spectrum c =
+    let mode = c.args.layout.mode in
+    let size : length c.args.signs.now ≡ total_carriers mode = ap length c.requires.signed ∙ signs_length mode in
+    record { as_many = omega (arith, c.requires.floats); few = omega (arith, (sized mode).band_high) }
 
 pub loop-phase-init : goal.loop-phase-init
 unfolding choice_of

@@ -6,8 +6,8 @@ use lib.ListN.{get_or}
 use Rattle.params.specs.Params.{kind_from, kind_codes}
 use Rattle.ofdm.specs.Band.{segment_at}
 use Rattle.ballots.proofs.Metric.{begin, walkable, again_coherent, again_differential, some_energy, no_energy}
-use Rattle.ballots.proofs.phase_metric.Goals as goal
-use Rattle.ballots.proofs.phase_metric.Goals.{in-Coherent, in-Differential}
+use Rattle.ballots.proofs.Signed.phase_metric.Goals as goal
+use Rattle.ballots.proofs.Signed.phase_metric.Goals.{in-Coherent, in-Differential}
 
 pub loop-place-init : goal.loop-place-init
 loop-place-init c = begin c.carriers_per_segment-c.ensures refl c.new.ensures refl

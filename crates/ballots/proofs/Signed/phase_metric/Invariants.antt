@@ -2,7 +2,7 @@
 -- Assumes nothing.
 use Rattle.params.specs.Params.{kind_codes}
 use Rattle.ballots.proofs.Metric.{WalkedTo}
-use Rattle.ballots.proofs.phase_metric.Given as goal
+use Rattle.ballots.proofs.Signed.phase_metric.Given as goal
 
 abbrev pub invariant-loop-place : goal.invariant-loop-place
-invariant-loop-place l = WalkedTo l.layout.mode (kind_codes l.layout.kinds) l.y l.phase.number l.c l.place l.run
+invariant-loop-place l = WalkedTo l.layout.mode (kind_codes l.layout.kinds) l.self.y.now l.phase.number l.c l.place l.run

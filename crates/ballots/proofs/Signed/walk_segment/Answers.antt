@@ -5,7 +5,7 @@ use mathlib.Core.Path.{◌≡◌}
 use native.Mathlib.Nat.{add-zero}
 use native.Mathlib.Omega.{arith}
 use Rattle.ballots.proofs.Walking.{none_walked, one_walked}
-use Rattle.ballots.proofs.walk_segment.Goals as goal
+use Rattle.ballots.proofs.Signed.walk_segment.Goals as goal
 
 pub loop-i-init : goal.loop-i-init
 loop-i-init c = (rw add-zero c.pilot_at-pilot.ensures, none_walked)
