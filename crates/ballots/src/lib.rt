@@ -125,7 +125,11 @@ fn phase_metric(layout: FrameLayout, y: &[f32], signs: &[u8], phase: Phase) -> O
         let here = BandPlace(place);
         match layout.kind(ofdm::segment_at_position(here)) {
             SegmentKind::Coherent => {
-                let lowest = ofdm::band_carrier(mode, here, SegmentPlace(3 * phase.number as usize));
+                let lowest = ofdm::band_carrier(
+                    mode,
+                    here,
+                    SegmentPlace(3 * phase.number as usize),
+                );
                 run = walk_segment(run, y, signs, lowest, c / 12);
             }
             SegmentKind::Differential => {

@@ -6,11 +6,11 @@
 
 mod phase;
 
-pub use phase::Phase;
-
 ghost use Rattle.std.specs.Prelude.{◌≡◌};
 ghost use Rattle.params.specs.Params.{mode_number, kind_code, kind_from, refusal_number, code_of, ModeTold, GuardTold, KindTold};
 ghost use Rattle.params.specs.Params.{carriers_per_segment, data_carriers_per_segment, total_carriers, fft_size};
+
+pub use phase::Phase;
 
 // Why a call is refused. The numbers are what a C host is told, and stay.
 #[derive(Clone, Copy, Debug, PartialEq, Eq)]

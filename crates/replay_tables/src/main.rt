@@ -80,9 +80,13 @@ fn check_tables(answers: &mut Answers) -> Result<(), Cut> {
 
 fn check_states(answers: &mut Answers) -> Result<(), Cut> {
     for mode in Mode::ALL {
-        compare(answers, 13, |seg: usize| -> u16
-            requires { seg < 13 }
-        { tables::prbs_segment_init(mode, Segment { number: seg }) })?;
+        compare(
+            answers,
+            13,
+            |seg: usize| -> u16
+                requires { seg < 13 }
+            { tables::prbs_segment_init(mode, Segment { number: seg }) },
+        )?;
     }
     Ok(())
 }
