@@ -1,17 +1,17 @@
 -- Kinds that are read while they are tested: what is read is the kinds' front, and the rest decides the test.
 -- Assumes nothing.
 use Prim.Native.Nat.{ℕ, ◌+◌, ◌<◌, ◌≤◌}
-use mathlib.Core.Bool.{true, false}
+use mathlib.Core.Bool.{true}
 use mathlib.Core.List.{List, [], ◌∷◌, ◌++◌, map}
 use mathlib.Core.Path.{◌≡◌, sym, ap, ◌∙◌}
 use native.Mathlib.Numerals.{add-one}
 use native.Mathlib.Omega.{arith}
-use borrow.Author.Tests.{eq-eqb, ne_eqb, le-leb, lt-leb}
+use borrow.Author.Tests.{eq-eqb, le-leb}
 use lib.Dec.{leb}
 use lib.ListN.{length, get_or, take, drop, set, length-set, drop_of_length-le}
 use Rattle.std.proofs.lemmas.List.{length-map, map-set}
 use lib.Seq.{take-suc, take-suc-set, take_all}
-use Rattle.lists.specs.Tests.{all_in, all_in_stop, all_in_pass}
+use Rattle.lists.specs.Tests.{all_in, all_in_pass}
 use Rattle.params.specs.declared.SegmentKind.{SegmentKind}
 use Rattle.params.specs.declared.SegmentKind.TheVariants.{Coherent, Differential}
 use Rattle.params.specs.Params.{kind_code, kind_codes}
@@ -20,10 +20,6 @@ use Rattle.frame.specs.Operations.{are_kinds}
 kind_small : (kind : SegmentKind) → kind_code kind ≤ 1
 kind_small Coherent = omega arith
 kind_small Differential = omega arith
-
--- not thirteen
-pub miscounted : (kinds : List ℕ) → (length kinds ≡ 13 → ⊥) → are_kinds kinds ≡ false
-miscounted kinds h = rw (ne_eqb (length kinds) 13 h)
 
 module _ (kinds : List ℕ) where
   pub record Reading (i : ℕ) (read : List SegmentKind) : Type 0 where
@@ -45,11 +41,6 @@ module _ (kinds : List ℕ) where
               (rw (take-suc kinds i 0 (omega (arith, r.all)), e) (ap (λ (z : List ℕ). z ++ kind_code kind ∷ []) r.front));
           rest = r.rest ∙ all_in_pass (λ k. leb k 1) kinds i (omega (arith, r.all)) (le-leb _ _ (rw e (kind_small kind)));
         }
-
-    -- a byte that is no kind
-    pub no_kind : 2 ≤ get_or kinds i 0 → are_kinds kinds ≡ false
-    no_kind bad =
-        rw (eq-eqb (length kinds) 13 r.all) (r.rest ∙ all_in_stop (λ k. leb k 1) kinds i (omega (arith, r.all)) (lt-leb _ _ bad))
 
   pub all_read : (i : ℕ) (read : List SegmentKind) → Reading i read → 13 ≤ i → i ≤ 13 → (are_kinds kinds ≡ true) × (kind_codes read ≡ kinds)
   unfolding kind_codes
