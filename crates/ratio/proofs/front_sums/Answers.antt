@@ -17,7 +17,7 @@ loop-from-preserved c =
       search (rules, l.invariant.1),
       search (rules, l.invariant.2),
       sum_front _ _ _ _ _ _ _ _ _ _ (omega arith) (omega arith) (omega arith) put.auto.squares put.auto.sizes
-      l.invariant.3 put.ensures c.add_terms-sums.ensures,
+          l.invariant.3 put.ensures c.add_terms-sums.ensures,
     )
 
 pub returns-2 : goal.returns-2
