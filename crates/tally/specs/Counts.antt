@@ -15,6 +15,10 @@ capped_low n h = omega arith
 pub capped_high : (n : ℕ) → largest < n → largest ≡ capped n
 capped_high n h = omega arith
 
+-- counts that are added one after another stay as those that are added at once
+capped_twice : (a b : ℕ) → capped (capped a + b) ≡ capped (a + b)
+capped_twice a b = omega arith
+
 -- a count that is kept
 pub kept : (n : ℕ) → n ≤ largest → n ≡ capped (n + 0)
 kept n h = omega arith
