@@ -51,7 +51,7 @@ pub fn answer_line(line: Line, out: &mut [u8], at: usize) -> usize
     if line.len == 17 {
         put_answer(out, at, &line.bytes)
     } else {
-        put_refused(out, at, Refusal::BadForm)
+        put_refused(out, at, u8::from(Refusal::BadForm) as usize)
     }
 }
 

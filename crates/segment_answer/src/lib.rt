@@ -6,12 +6,11 @@ ghost use Rattle.std.specs.Prelude.{◌<◌, ◌≤◌, ◌+◌, ◌/◌, length
 ghost use Rattle.lists.specs.Lists.{joined, range};
 ghost use Rattle.role_counts.specs.Counts.{kind_counts};
 ghost use Rattle.text.specs.Put.{Put};
-ghost use Rattle.params.specs.Params.{refusal_number};
 ghost use Rattle.segment_answer.specs.Answer.{edge_line, refused_line, line_answer};
 ghost use Rattle.segment_answer.specs.Pieces.{three, line_head, counts_line, line_of};
 
 use ofdm::{BandCarrier, BandPlace, Segment, SegmentPlace};
-use params::{Mode, Refusal, SegmentKind};
+use params::{Mode, SegmentKind};
 use question::Question;
 use role_counts::kind_counts;
 use text::{put_byte, put_number, put_text};
@@ -96,15 +95,15 @@ fn put_edge(out: &mut [u8], at: usize, mode: Mode) -> usize
     put_text(out, counts, b"0,0,0,0,0,0\n")
 }
 
-// The line of a refusal.
+// The line of a refusal, by its number: the form of the line has room for any below 10000.
 #[tactic(auto, using(text::specs::Laws::then), unfolding(crate::specs::Answer::refused_line))]
-pub fn put_refused(out: &mut [u8], at: usize, refusal: Refusal) -> usize
-    requires { at + 512 ≤ length out.old }
-    ensures put { Put out.old at (refused_line (refusal_number refusal)) result out.new }
+pub fn put_refused(out: &mut [u8], at: usize, code: usize) -> usize
+    requires { (at + 512 ≤ length out.old) × (code < 10000) }
+    ensures put { Put out.old at (refused_line code) result out.new }
     ensures upper_bound { result ≤ at + 512 }
 {
     let number = put_text(out, at, b"refused,");
-    put_number(out, number, u8::from(refusal) as usize, b'\n')
+    put_number(out, number, code, b'\n')
 }
 
 // The answer to a line that is given whole.
@@ -118,6 +117,6 @@ pub fn put_answer(out: &mut [u8], at: usize, line: &[u8]) -> usize
             let edge = put_segments(out, at, question);
             put_edge(out, edge, question.mode)
         }
-        Err(refusal) => put_refused(out, at, refusal),
+        Err(refusal) => put_refused(out, at, u8::from(refusal) as usize),
     }
 }

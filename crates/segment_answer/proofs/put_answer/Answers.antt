@@ -12,4 +12,5 @@ returns-in-Ok-clause-put c =
     (then c.put_segments-edge.ensures.put c.put_edge.ensures.put)
 
 pub returns-in-Err-clause-put : goal.returns-in-Err-clause-put
-returns-in-Err-clause-put c = put_as (refused_answer c.args.line.now _ c.in-Err.ensures.code (some_number c.in-Err.refusal)) c.put_refused.ensures.put
+returns-in-Err-clause-put c = put_as (refused_answer c.args.line.now _ c.in-Err.ensures.code (some_number c.in-Err.refusal))
+    (rw c.from.ensures at c.put_refused.ensures.put)
