@@ -84,7 +84,8 @@ fn collect_continual(roles: &[u8], out: &mut [u32]) -> Result<usize, Refusal>
     Ok(n)
 }
 
-// Role bytes of the band, in a buffer's first k_total entries.
+// Role bytes of the band, in the first k_total entries of a buffer with room for every mode: nothing is
+// allocated.
 fn band(layout: FrameLayout, phase: Phase) -> [u8; 5617]
     ensures { BandBuffer layout.mode (band_roles layout.mode phase.number (wide (kind_codes layout.kinds))) result }
 {

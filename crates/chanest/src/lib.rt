@@ -150,7 +150,8 @@ fn refusal(mode: Mode, floats: usize, current: Current, n: usize) -> Result<(), 
     Ok(())
 }
 
-// The grid of an accepted call.
+// The grid of an accepted call. The signs stand in the front of a buffer with room for every mode: nothing is
+// allocated.
 fn write_grid(layout: FrameLayout, spectra: &[f32], current: Current, out: &mut [f32])
     requires { window_code layout.mode (length spectra.now) current (length out.old) ≡ 0 }
     ensures { out.new ≡ grid layout.mode (kind_codes layout.kinds) spectra.now current out.old }

@@ -81,7 +81,8 @@ pub fn is_sp(p: SegmentPlace, phase: u8) -> bool
     p.0 % 12 == 3 * (phase as usize)
 }
 
-// Whether a byte lies from low to high.
+// Whether a byte lies from low to high. Not a `RangeInclusive`: a contract would have to say that it is not
+// used up.
 pub fn is_between(low: u8, high: u8, b: u8) -> bool
     ensures { result ≡ between low high b }
 {

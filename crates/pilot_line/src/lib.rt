@@ -60,7 +60,8 @@ impl CarrierValues<'_> {
         sum.unscale(sent.count as f32)
     }
 
-    // The values' and the offsets' distances from their means, multiplied and summed.
+    // The values' and the offsets' distances from their means, multiplied and summed. It shares with `mean`
+    // only that complex numbers are added, so the loops stay two.
     #[tactic(auto, using(crate::proofs::Summing::sum_none, crate::proofs::Summing::sum_more, crate::proofs::Summing::term_is))]
     fn slope_sum(&self, times: Times, middle: C32) -> C32
         requires { Inside self.now.win.count times.sent }

@@ -57,7 +57,8 @@ fn count_votes(layout: FrameLayout, spectra: &[f32], signs: &[u8]) -> VoteCounts
     VoteCounts { all, heard }
 }
 
-// The same, by the signs of the band.
+// The same, by the signs of the band, which stand in the front of a buffer with room for every mode: nothing
+// is allocated.
 fn band_votes(layout: FrameLayout, spectra: &[f32]) -> VoteCounts
     requires { Whole layout.mode (length spectra.now) }
     ensures { VoteCountsOf (ballots layout.mode (kind_codes layout.kinds) spectra.now) result }

@@ -39,7 +39,8 @@ impl Prbs {
         }
     }
 
-    // One step of x^11 + x^9 + 1: W is D11, and D9 xor D11 enters D1.
+    // One step of x^11 + x^9 + 1: W is D11, and D9 xor D11 enters D1. W stays a number: a digit of the
+    // register, and what a C host is handed for a sign.
     pub fn step(&mut self) -> u8
         ensures { Step self.old.bits result self.new.bits }
     {

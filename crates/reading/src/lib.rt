@@ -9,6 +9,7 @@ use std::io;
 use std::io::Read;
 
 // What a read returned says of the input: so many bytes were read, none as it has ended, or it failed.
+// No `From`, since both types are those of std.
 #[tactic(auto, using(crate::specs::Laws::told_failed, crate::specs::Laws::told_ended, crate::specs::Laws::told_more))]
 pub fn told(got: io::Result<usize>) -> io::Result<Option<usize>>
     ensures { result ≡ read_told got }
