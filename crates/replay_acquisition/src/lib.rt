@@ -26,7 +26,7 @@ pub fn detect_mode(
     guards: &[u8],
 ) -> Result<(), Cut> {
     let mut room = [f64::HELD; ROOM];
-    let scratch = &mut room[..call.lent];
+    let scratch = call.lend(&mut room)?;
     let mut found = u8::HELD;
     let mut mode = u8::HELD;
     let mut guard = u8::HELD;
@@ -60,7 +60,7 @@ pub fn detect_mode(
 
 pub fn integer_cfo(answers: &mut Answers, call: Call, spectra: &[f32]) -> Result<(), Cut> {
     let mut room = [f32::HELD; ROOM];
-    let ratios = &mut room[..call.lent];
+    let ratios = call.lend(&mut room)?;
     let mut shift = i64::HELD;
     let mut score = f32::HELD;
     let code = host::sillurwy_integer_cfo(
@@ -79,7 +79,7 @@ pub fn integer_cfo(answers: &mut Answers, call: Call, spectra: &[f32]) -> Result
 
 pub fn detect_kinds(answers: &mut Answers, call: Call, spectra: &[f32]) -> Result<(), Cut> {
     let mut room = [f32::HELD; ROOM];
-    let ratios = &mut room[..call.lent];
+    let ratios = call.lend(&mut room)?;
     let mut kinds = [u8::HELD; 13];
     let mut scores = [f32::HELD; 13];
     let code = host::sillurwy_detect_kinds(call.mode, spectra, ratios, &mut kinds, &mut scores);

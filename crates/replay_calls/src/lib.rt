@@ -43,7 +43,7 @@ pub fn check_record(answers: &mut Answers, head: &[u8; HEAD]) -> Result<(), Cut>
 // The functions of floats are lent nothing, so what a head says of that has no meaning there.
 fn check_call(answers: &mut Answers, head: &[u8; HEAD], lists: Lists<'_>) -> Result<(), Cut> {
     let code = head[1];
-    let call = Call::of(head);
+    let call = Call::of(head).within_room();
     match Operation::try_from(head[0])? {
         Operation::CarrierBin => replay_layout::carrier_bin(answers, call?),
         Operation::RoleMap => replay_layout::role_map(answers, call?, lists.bytes),

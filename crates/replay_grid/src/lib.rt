@@ -12,7 +12,7 @@ pub fn estimate_grid(
     spectra: &[f32],
 ) -> Result<(), Cut> {
     let mut room = [f32::HELD; ROOM];
-    let grid = &mut room[..call.lent];
+    let grid = call.lend(&mut room)?;
     let code = host::sillurwy_estimate_grid(
         call.mode,
         call.choice,

@@ -2,7 +2,7 @@
 // asks for, and the operation's number. The parts of the replayer share this.
 #![tactic(auto)]
 
-ghost use Rattle.std.specs.Prelude.{◌<◌, ◌≤◌};
+ghost use Rattle.std.specs.Prelude.{◌<◌, ◌≤◌, ◌≡◌, length, IfOk};
 
 use replay::Cut;
 
@@ -86,17 +86,12 @@ pub struct Call {
     pub third: usize,
     pub fourth: usize,
     pub lent: usize,
-    pub ghost has_room: { lent ≤ 32259 },
 }
 
 impl Call {
-    // The call that a head asks for, if there is room for what it lends.
-    pub fn of(head: &[u8; HEAD]) -> Result<Call, Cut> {
-        let lent = size_at(head, 10);
-        if ROOM < lent {
-            return Err(Cut);
-        }
-        Ok(Call {
+    // The call that a head asks for.
+    pub fn of(head: &[u8; HEAD]) -> Call {
+        Call {
             code: head[1],
             mode: head[2],
             choice: head[4],
@@ -104,8 +99,25 @@ impl Call {
             second: size_at(head, 4),
             third: size_at(head, 6),
             fourth: size_at(head, 8),
-            lent,
-        })
+            lent: size_at(head, 10),
+        }
+    }
+
+    // The same, where there is room for what it lends.
+    pub fn within_room(self) -> Result<Call, Cut>
+        ensures { IfOk result (λ call. call.lent ≤ 32259) }
+    {
+        if ROOM < self.lent {
+            return Err(Cut);
+        }
+        Ok(self)
+    }
+
+    // The entries of a room that the call lends, if it has so many.
+    pub fn lend<T>(self, room: &mut [T]) -> Result<&mut [T], Cut>
+        ensures { IfOk result (λ entries. length entries.now ≡ self.lent) }
+    {
+        room.get_mut(..self.lent).ok_or(Cut)
     }
 }
 

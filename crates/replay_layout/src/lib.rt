@@ -14,7 +14,7 @@ pub fn carrier_bin(answers: &mut Answers, call: Call) -> Result<(), Cut> {
 
 pub fn role_map(answers: &mut Answers, call: Call, kinds: &[u8]) -> Result<(), Cut> {
     let mut room = [u8::HELD; ROOM];
-    let out = &mut room[..call.lent];
+    let out = call.lend(&mut room)?;
     let code = host::sillurwy_role_map(call.mode, call.choice, kinds, out);
     answers.tally.entry(code == call.code);
     answers.check_list(out)
@@ -22,7 +22,7 @@ pub fn role_map(answers: &mut Answers, call: Call, kinds: &[u8]) -> Result<(), C
 
 pub fn sign_map(answers: &mut Answers, call: Call) -> Result<(), Cut> {
     let mut room = [u8::HELD; ROOM];
-    let out = &mut room[..call.lent];
+    let out = call.lend(&mut room)?;
     let code = host::sillurwy_sign_map(call.mode, out);
     answers.tally.entry(code == call.code);
     answers.check_list(out)
@@ -30,7 +30,7 @@ pub fn sign_map(answers: &mut Answers, call: Call) -> Result<(), Cut> {
 
 pub fn data_list(answers: &mut Answers, call: Call, kinds: &[u8]) -> Result<(), Cut> {
     let mut room = [u32::HELD; ROOM];
-    let out = &mut room[..call.lent];
+    let out = call.lend(&mut room)?;
     let code = host::sillurwy_data_list(call.mode, call.choice, kinds, out);
     answers.tally.entry(code == call.code);
     answers.check_list(out)
@@ -38,7 +38,7 @@ pub fn data_list(answers: &mut Answers, call: Call, kinds: &[u8]) -> Result<(), 
 
 pub fn continual_list(answers: &mut Answers, call: Call, kinds: &[u8]) -> Result<(), Cut> {
     let mut room = [u32::HELD; ROOM];
-    let out = &mut room[..call.lent];
+    let out = call.lend(&mut room)?;
     let mut count = usize::HELD;
     let code = host::sillurwy_continual_list(call.mode, kinds, out, &mut count);
     answers.tally.entry(code == call.code);
