@@ -25,25 +25,27 @@ pub struct Lift {
     pub i: u64,
 }
 
-// One step of the root by halves (Zimmermann): from the root of n to that of n * b * b + hi * b + lo,
-// by one division.
-fn refine(s: u64, r: u64, b: u64, hi: u64, lo: u64) -> RootRest
-    requires { Ready s r b hi lo }
-    ensures { Refined s r b hi lo result.s result.r }
-{
-    let t = r * b + hi;
-    let d = 2 * s;
-    let q = t / d;
-    let u = t % d;
-    let e = s * b + q;
-    let x = u * b + lo;
-    let y = q * q;
-    if y <= x {
-        return RootRest { s: e, r: x - y };
-    }
-    RootRest {
-        s: e - 1,
-        r: x + (2 * e - 1) - y,
+impl RootRest {
+    // One step of the root by halves (Zimmermann): from the root of n to that of n * b * b + hi * b + lo,
+    // by one division.
+    fn refine(self, b: u64, hi: u64, lo: u64) -> RootRest
+        requires { Ready self.s self.r b hi lo }
+        ensures { Refined self.s self.r b hi lo result.s result.r }
+    {
+        let t = self.r * b + hi;
+        let d = 2 * self.s;
+        let q = t / d;
+        let u = t % d;
+        let e = self.s * b + q;
+        let x = u * b + lo;
+        let y = q * q;
+        if y <= x {
+            return RootRest { s: e, r: x - y };
+        }
+        RootRest {
+            s: e - 1,
+            r: x + (2 * e - 1) - y,
+        }
     }
 }
 
@@ -63,37 +65,24 @@ fn whole_root(a: u64) -> RootRest
 {
     let t = a / 0x4000_0000_0000;
     let s = seed(t as usize) as u64;
-    let p3 = refine(
-        s,
-        t - s * s,
-        8,
-        a / 0x800_0000_0000 % 8,
-        a / 0x100_0000_0000 % 8,
-    );
-    let p4 = refine(
-        p3.s,
-        p3.r,
-        128,
-        a / 0x2_0000_0000 % 128,
-        a / 0x400_0000 % 128,
-    );
-    let p5 = refine(p4.s, p4.r, 8192, a / 8192 % 8192, a % 8192);
-    refine(p5.s, p5.r, 0x400_0000, 0, 0)
+    let p2 = RootRest { s, r: t - s * s };
+    let p3 = p2.refine(8, a / 0x800_0000_0000 % 8, a / 0x100_0000_0000 % 8);
+    let p4 = p3.refine(128, a / 0x2_0000_0000 % 128, a / 0x400_0000 % 128);
+    let p5 = p4.refine(8192, a / 8192 % 8192, a % 8192);
+    p5.refine(0x400_0000, 0, 0)
 }
 
-// a times the power of 4 that gives it 53 or 54 digits. Only a subnormal goes through the loop, which a
-// test of the digits ends and no count, so it is a while.
+// a times the power of 4 that gives it 53 or 54 digits. Only a subnormal has fewer of its own: the test
+// spares all others the count.
 fn lifted(a: u64) -> Lift
     requires { (0 < a) × (a ≤ 18014398509481982) }
     ensures { Lifted a result.a result.i }
 {
-    let mut x = a;
-    let mut i = 0u64;
-    while x < 0x10_0000_0000_0000 {
-        x = x * 4;
-        i = i + 1;
+    if 0x10_0000_0000_0000 <= a {
+        return Lift { a, i: 0 };
     }
-    Lift { a: x, i }
+    let i = u64::from((a.leading_zeros() - 10) / 2);
+    Lift { a: a << (2 * i), i }
 }
 
 // The bits of the root of a * 4^h units.
