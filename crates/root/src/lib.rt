@@ -4,7 +4,7 @@
 
 mod seeds;
 
-ghost use Rattle.std.specs.Prelude.{◌≡◌, true, IfSome, ◌+◌, ◌*◌, ◌^◌, ◌≤◌, ◌<◌};
+ghost use Rattle.std.specs.Prelude.{◌≡◌, true, IfSome, ◌+◌, ◌*◌, ◌%◌, ◌^◌, ◌≤◌, ◌<◌};
 ghost use Rattle.std.specs.Float.{binary64};
 ghost use Rattle.std.specs.Float.Ieee.{of_bits};
 ghost use Rattle.ieee.specs.Narrow.{narrow_of};
@@ -72,31 +72,65 @@ fn whole_root(a: u64) -> RootRest
     p5.refine(0x400_0000, 0, 0)
 }
 
-// a times the power of 4 that gives it 53 or 54 digits. Only a subnormal has fewer of its own: the test
-// spares all others the count.
-fn lifted(a: u64) -> Lift
-    requires { (0 < a) × (a ≤ 18014398509481982) }
-    ensures { Lifted a result.a result.i }
-{
-    if 0x10_0000_0000_0000 <= a {
-        return Lift { a, i: 0 };
-    }
-    let i = u64::from((a.leading_zeros() - 10) / 2);
-    Lift { a: a << (2 * i), i }
+// A number of 53 digits and of either power of 2, as one of an even power: with 54 digits at most.
+#[derive(Clone, Copy)]
+struct Operand {
+    a: u64,
+    ghost some: { 0 < a },
+    ghost few: { a ≤ 18014398509481982 },
 }
 
-// The bits of the root of a * 4^h units.
-fn root_bits(a: u64, h: u64) -> u64
-    requires { (0 < a) × (a ≤ 18014398509481982) × (537 ≤ h) × (h ≤ 1560) }
-    ensures { RootBits (a * 2 ^ (h + h)) result }
-{
-    let l = lifted(a);
-    let p = whole_root(l.a);
-    let g = (h - l.i - 26) * 0x10_0000_0000_0000;
-    let s = p.s;
-    // one more where the remainder is above the root, with no branch
-    let up = (0x8000_0000_0000_0000 + p.r - s - 1) / 0x8000_0000_0000_0000;
-    g + (s + up)
+impl Operand {
+    // From m and the power k, with no branch: half of all k are odd.
+    fn new(m: u64, k: u64) -> Operand
+        requires { (0 < m) × (m < 9007199254740992) }
+        ensures { result.a ≡ m * (k % 2 + 1) }
+    {
+        Operand { a: m * (k % 2 + 1) }
+    }
+
+    // Times the power of 4 that gives it 53 or 54 digits. Only a subnormal has fewer of its own: the
+    // test spares all others the count.
+    fn lifted(self) -> Lift
+        ensures { Lifted self.a result.a result.i }
+    {
+        if 0x10_0000_0000_0000 <= self.a {
+            return Lift { a: self.a, i: 0 };
+        }
+        let i = u64::from((self.a.leading_zeros() - 10) / 2);
+        Lift {
+            a: self.a << (2 * i),
+            i,
+        }
+    }
+
+    // The bits of the root of a * 4^h units.
+    fn root_bits(self, h: u64) -> u64
+        requires { (537 ≤ h) × (h ≤ 1560) }
+        ensures { RootBits (self.a * 2 ^ (h + h)) result }
+    {
+        let l = self.lifted();
+        let p = whole_root(l.a);
+        let g = (h - l.i - 26) * 0x10_0000_0000_0000;
+        let s = p.s;
+        // one more where the remainder is above the root, with no branch
+        let up = (0x8000_0000_0000_0000 + p.r - s - 1) / 0x8000_0000_0000_0000;
+        g + (s + up)
+    }
+
+    // Whether the root of a, divided by 8, is clearly nearer to y than to any other whole number.
+    fn is_near(self, y: u64) -> bool
+        requires { (8388608 ≤ y) × (y < 16777216) }
+        ensures { result ≡ true → Near self.a y }
+    {
+        // the squares of h and of h - 8 enclose a, with 4 to spare
+        let h = 8 * y + 4;
+        let s = h * h;
+        if s < self.a + 4 {
+            return false;
+        }
+        s + 68 <= self.a + 16 * h
+    }
 }
 
 // The bits of the root of m * 2^k units.
@@ -104,8 +138,7 @@ fn root_of_units(m: u64, k: u64) -> u64
     requires { (0 < m) × (m < 9007199254740992) × (k ≤ 2046) }
     ensures { RootBits (m * 2 ^ k * 2 ^ 1074) result }
 {
-    // with no branch: half of all k are odd
-    root_bits(m * (k % 2 + 1), 537 + k / 2)
+    Operand::new(m, k).root_bits(537 + k / 2)
 }
 
 // The bits of the root of the number above zero whose bits are b.
@@ -171,20 +204,6 @@ fn near_root(b: u64) -> u64
     q % 0x80_0000 + 0x80_0000
 }
 
-// Whether the root of a, divided by 8, is clearly nearer to y than to any other whole number.
-fn is_near(a: u64, y: u64) -> bool
-    requires { (a ≤ 18014398509481982) × (8388608 ≤ y) × (y < 16777216) }
-    ensures { result ≡ true → Near a y }
-{
-    // the squares of h and of h - 8 enclose a, with 4 to spare
-    let h = 8 * y + 4;
-    let s = h * h;
-    if s < a + 4 {
-        return false;
-    }
-    s + 68 <= a + 16 * h
-}
-
 // The bits of the narrowed root of the number whose bits are b, if the guess was good. b is such that
 // the root is an f32 of 24 digits.
 fn guessed_bits(b: u64) -> Option<u32>
@@ -196,7 +215,7 @@ fn guessed_bits(b: u64) -> Option<u32>
     let t = b - 0x3030_0000_0000_0000;
     let m = t % 0x10_0000_0000_0000 + 0x10_0000_0000_0000;
     let k = t / 0x10_0000_0000_0000;
-    if is_near(m * (k % 2 + 1), y) {
+    if Operand::new(m, k).is_near(y) {
         let r = k / 2 * 0x80_0000 + y;
         return Some(r as u32);
     }

@@ -1,4 +1,4 @@
--- `root::lifted` meets its contract: a number of j + 1 digits, below 53, is given 53 or 54 by half of what 53 has over j.
+-- `root::Operand::lifted` meets its contract: a number of j + 1 digits, below 53, is given 53 or 54 by half of what 53 has over j.
 -- Assumes nothing.
 use Rattle.std.proofs.Common.{ℕ, suc, ◌+◌, ◌-◌, ◌*◌, ◌/◌, ◌%◌, ◌^◌, ◌≤◌, ◌<◌, ◌≡◌, refl, ap, ◌∙◌, arith, mul-le-mul_right, mul-lt-mul_of_pos_right}
 use Rattle.std.proofs.Common.{pow_pos, pow_mono, pow-add, mod-eq_of_lt}
@@ -7,7 +7,7 @@ use native.Mathlib.Nat.{lt_of_not-le}
 use lib.Count.{count_leading_zeros}
 use Rattle.ieee.specs.Numbers.{shift}
 use Rattle.root.specs.Inner.{Lifted}
-use Rattle.root.proofs.lifted.Goals as goal
+use Rattle.root.proofs.Operand.lifted.Goals as goal
 
 -- the place j of the first digit
 record First (a : ℕ) : Type 0 where
@@ -36,12 +36,12 @@ lift a i j low high few e =
     rw (doubled, mod-eq_of_lt word)
     (record { whole = refl; few = omega arith; low = least; high = omega (arith, below, even) })
 
-pub overflow_sub-a : goal.overflow_sub-a
-overflow_sub-a c =
-    let f = first c.args.a (omega arith) c.if-a-ge4503599627370496.false in
+pub overflow_sub-self : goal.overflow_sub-self
+overflow_sub-self c =
+    let f = first c.args.self.a (omega arith) c.if-self-ge4503599627370496.false in
     omega (arith, f.zeros, f.few)
 
 pub returns : goal.returns
 returns c =
-    let f = first c.args.a (omega arith) c.if-a-ge4503599627370496.false in
-    lift c.args.a c.from-i.result f.j f.low f.high f.few (omega (arith, c.from-i.ensures, f.zeros))
+    let f = first c.args.self.a (omega arith) c.if-self-ge4503599627370496.false in
+    lift c.args.self.a c.from-i.result f.j f.low f.high f.few (omega (arith, c.from-i.ensures, f.zeros))
