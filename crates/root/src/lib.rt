@@ -169,10 +169,7 @@ pub fn root(x: f64) -> f64
         }
         return f64::from_bits(positive_root(b));
     }
-    if b == 0x7ff0_0000_0000_0000 {
-        return x;
-    }
-    if b == 0x8000_0000_0000_0000 {
+    if b == 0x7ff0_0000_0000_0000 || b == 0x8000_0000_0000_0000 {
         return x;
     }
     0.0 / 0.0
