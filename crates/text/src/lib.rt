@@ -1,6 +1,8 @@
 // Text stored in a buffer that the caller lends: each function takes the index to start at and gives
 // the index behind what it stored.
-// The index stays beside the buffer: nothing is allocated, and a line's room is counted from it.
+// The index stays beside the buffer: each contract over a cursor that held both would also have to say
+// that it still holds the same buffer, by its ghost name.
+// Digits are put by hand: `write!` to a lent slice, by std's Cursor, says nothing of the bytes.
 #![tactic(auto)]
 
 ghost use Rattle.std.specs.Prelude.{[], ◌∷◌, ◌++◌, ◌<◌, ◌≤◌, ◌+◌, ◌/◌, length};
