@@ -124,13 +124,7 @@ fn circle_of_bits(x: u64, y: u64) -> u64
 {
     let a = x % 0x8000_0000_0000_0000;
     let b = y % 0x8000_0000_0000_0000;
-    if a >= 0x7ff0_0000_0000_0000 {
-        return 0;
-    }
-    if b >= 0x7ff0_0000_0000_0000 {
-        return 0;
-    }
-    if a + b == 0 {
+    if a >= 0x7ff0_0000_0000_0000 || b >= 0x7ff0_0000_0000_0000 || a + b == 0 {
         return 0;
     }
     mirror_of(y, 65536, mirror_of(x, 32768, quarter_of(a, b)))
@@ -140,10 +134,7 @@ fn circle_of_bits(x: u64, y: u64) -> u64
 fn circle_of(re: f64, im: f64) -> u64
     ensures { (result ≡ circle_of re im) × (result < 65536) }
 {
-    if re.is_nan() {
-        return 0;
-    }
-    if im.is_nan() {
+    if re.is_nan() || im.is_nan() {
         return 0;
     }
     circle_of_bits(re.to_bits(), im.to_bits())

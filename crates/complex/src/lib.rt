@@ -106,10 +106,7 @@ impl Complex<f32> {
     pub fn wide_norm_sqr(self) -> f64
         ensures { result ≡ squared_size binary64 (of32 self) }
     {
-        if self.re.is_nan() {
-            return f64::NAN;
-        }
-        if self.im.is_nan() {
+        if self.re.is_nan() || self.im.is_nan() {
             return f64::NAN;
         }
         let x = C64::new(self.re as f64, self.im as f64);

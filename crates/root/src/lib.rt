@@ -4,7 +4,7 @@
 
 mod seeds;
 
-ghost use Rattle.std.specs.Prelude.{◌≡◌, true, IfSome, ◌+◌, ◌*◌, ◌^◌, ◌≤◌, ◌<◌};
+ghost use Rattle.std.specs.Prelude.{◌≡◌, true, IfSome, ◌+◌, ◌*◌, ◌%◌, ◌^◌, ◌≤◌, ◌<◌};
 ghost use Rattle.std.specs.Float.{binary64};
 ghost use Rattle.std.specs.Float.Ieee.{of_bits};
 ghost use Rattle.ieee.specs.Narrow.{narrow_of};
@@ -25,25 +25,27 @@ pub struct Lift {
     pub i: u64,
 }
 
-// One step of the root by halves (Zimmermann): from the root of n to that of n * b * b + hi * b + lo,
-// by one division.
-fn refine(s: u64, r: u64, b: u64, hi: u64, lo: u64) -> RootRest
-    requires { Ready s r b hi lo }
-    ensures { Refined s r b hi lo result.s result.r }
-{
-    let t = r * b + hi;
-    let d = 2 * s;
-    let q = t / d;
-    let u = t % d;
-    let e = s * b + q;
-    let x = u * b + lo;
-    let y = q * q;
-    if y <= x {
-        return RootRest { s: e, r: x - y };
-    }
-    RootRest {
-        s: e - 1,
-        r: x + (2 * e - 1) - y,
+impl RootRest {
+    // One step of the root by halves (Zimmermann): from the root of n to that of n * b * b + hi * b + lo,
+    // by one division.
+    fn refine(self, b: u64, hi: u64, lo: u64) -> RootRest
+        requires { Ready self.s self.r b hi lo }
+        ensures { Refined self.s self.r b hi lo result.s result.r }
+    {
+        let t = self.r * b + hi;
+        let d = 2 * self.s;
+        let q = t / d;
+        let u = t % d;
+        let e = self.s * b + q;
+        let x = u * b + lo;
+        let y = q * q;
+        if y <= x {
+            return RootRest { s: e, r: x - y };
+        }
+        RootRest {
+            s: e - 1,
+            r: x + (2 * e - 1) - y,
+        }
     }
 }
 
@@ -63,51 +65,72 @@ fn whole_root(a: u64) -> RootRest
 {
     let t = a / 0x4000_0000_0000;
     let s = seed(t as usize) as u64;
-    let p3 = refine(
-        s,
-        t - s * s,
-        8,
-        a / 0x800_0000_0000 % 8,
-        a / 0x100_0000_0000 % 8,
-    );
-    let p4 = refine(
-        p3.s,
-        p3.r,
-        128,
-        a / 0x2_0000_0000 % 128,
-        a / 0x400_0000 % 128,
-    );
-    let p5 = refine(p4.s, p4.r, 8192, a / 8192 % 8192, a % 8192);
-    refine(p5.s, p5.r, 0x400_0000, 0, 0)
+    let p2 = RootRest { s, r: t - s * s };
+    let p3 = p2.refine(8, a / 0x800_0000_0000 % 8, a / 0x100_0000_0000 % 8);
+    let p4 = p3.refine(128, a / 0x2_0000_0000 % 128, a / 0x400_0000 % 128);
+    let p5 = p4.refine(8192, a / 8192 % 8192, a % 8192);
+    p5.refine(0x400_0000, 0, 0)
 }
 
-// a times the power of 4 that gives it 53 or 54 digits. Only a subnormal goes through the loop, which a
-// test of the digits ends and no count, so it is a while.
-fn lifted(a: u64) -> Lift
-    requires { (0 < a) × (a ≤ 18014398509481982) }
-    ensures { Lifted a result.a result.i }
-{
-    let mut x = a;
-    let mut i = 0u64;
-    while x < 0x10_0000_0000_0000 {
-        x = x * 4;
-        i = i + 1;
+// A number of 53 digits and of either power of 2, as one of an even power: with 54 digits at most.
+#[derive(Clone, Copy)]
+struct Operand {
+    a: u64,
+    ghost some: { 0 < a },
+    ghost few: { a ≤ 18014398509481982 },
+}
+
+impl Operand {
+    // From m and the power k, with no branch: half of all k are odd.
+    fn new(m: u64, k: u64) -> Operand
+        requires { (0 < m) × (m < 9007199254740992) }
+        ensures { result.a ≡ m * (k % 2 + 1) }
+    {
+        Operand { a: m * (k % 2 + 1) }
     }
-    Lift { a: x, i }
-}
 
-// The bits of the root of a * 4^h units.
-fn root_bits(a: u64, h: u64) -> u64
-    requires { (0 < a) × (a ≤ 18014398509481982) × (537 ≤ h) × (h ≤ 1560) }
-    ensures { RootBits (a * 2 ^ (h + h)) result }
-{
-    let l = lifted(a);
-    let p = whole_root(l.a);
-    let g = (h - l.i - 26) * 0x10_0000_0000_0000;
-    let s = p.s;
-    // one more where the remainder is above the root, with no branch
-    let up = (0x8000_0000_0000_0000 + p.r - s - 1) / 0x8000_0000_0000_0000;
-    g + (s + up)
+    // Times the power of 4 that gives it 53 or 54 digits. Only a subnormal has fewer of its own: the
+    // test spares all others the count.
+    fn lifted(self) -> Lift
+        ensures { Lifted self.a result.a result.i }
+    {
+        if 0x10_0000_0000_0000 <= self.a {
+            return Lift { a: self.a, i: 0 };
+        }
+        let i = u64::from((self.a.leading_zeros() - 10) / 2);
+        Lift {
+            a: self.a << (2 * i),
+            i,
+        }
+    }
+
+    // The bits of the root of a * 4^h units.
+    fn root_bits(self, h: u64) -> u64
+        requires { (537 ≤ h) × (h ≤ 1560) }
+        ensures { RootBits (self.a * 2 ^ (h + h)) result }
+    {
+        let l = self.lifted();
+        let p = whole_root(l.a);
+        let g = (h - l.i - 26) * 0x10_0000_0000_0000;
+        let s = p.s;
+        // one more where the remainder is above the root, with no branch
+        let up = (0x8000_0000_0000_0000 + p.r - s - 1) / 0x8000_0000_0000_0000;
+        g + (s + up)
+    }
+
+    // Whether the root of a, divided by 8, is clearly nearer to y than to any other whole number.
+    fn is_near(self, y: u64) -> bool
+        requires { (8388608 ≤ y) × (y < 16777216) }
+        ensures { result ≡ true → Near self.a y }
+    {
+        // the squares of h and of h - 8 enclose a, with 4 to spare
+        let h = 8 * y + 4;
+        let s = h * h;
+        if s < self.a + 4 {
+            return false;
+        }
+        s + 68 <= self.a + 16 * h
+    }
 }
 
 // The bits of the root of m * 2^k units.
@@ -115,8 +138,7 @@ fn root_of_units(m: u64, k: u64) -> u64
     requires { (0 < m) × (m < 9007199254740992) × (k ≤ 2046) }
     ensures { RootBits (m * 2 ^ k * 2 ^ 1074) result }
 {
-    // with no branch: half of all k are odd
-    root_bits(m * (k % 2 + 1), 537 + k / 2)
+    Operand::new(m, k).root_bits(537 + k / 2)
 }
 
 // The bits of the root of the number above zero whose bits are b.
@@ -147,10 +169,7 @@ pub fn root(x: f64) -> f64
         }
         return f64::from_bits(positive_root(b));
     }
-    if b == 0x7ff0_0000_0000_0000 {
-        return x;
-    }
-    if b == 0x8000_0000_0000_0000 {
+    if b == 0x7ff0_0000_0000_0000 || b == 0x8000_0000_0000_0000 {
         return x;
     }
     0.0 / 0.0
@@ -182,20 +201,6 @@ fn near_root(b: u64) -> u64
     q % 0x80_0000 + 0x80_0000
 }
 
-// Whether the root of a, divided by 8, is clearly nearer to y than to any other whole number.
-fn is_near(a: u64, y: u64) -> bool
-    requires { (a ≤ 18014398509481982) × (8388608 ≤ y) × (y < 16777216) }
-    ensures { result ≡ true → Near a y }
-{
-    // the squares of h and of h - 8 enclose a, with 4 to spare
-    let h = 8 * y + 4;
-    let s = h * h;
-    if s < a + 4 {
-        return false;
-    }
-    s + 68 <= a + 16 * h
-}
-
 // The bits of the narrowed root of the number whose bits are b, if the guess was good. b is such that
 // the root is an f32 of 24 digits.
 fn guessed_bits(b: u64) -> Option<u32>
@@ -207,7 +212,7 @@ fn guessed_bits(b: u64) -> Option<u32>
     let t = b - 0x3030_0000_0000_0000;
     let m = t % 0x10_0000_0000_0000 + 0x10_0000_0000_0000;
     let k = t / 0x10_0000_0000_0000;
-    if is_near(m * (k % 2 + 1), y) {
+    if Operand::new(m, k).is_near(y) {
         let r = k / 2 * 0x80_0000 + y;
         return Some(r as u32);
     }

@@ -21,9 +21,9 @@ fn put_three(out: &mut [u8], at: usize, a: usize, b: usize, c: usize, behind: u8
     ensures put { Put out.old at (three a b c behind) result out.new }
     ensures upper_bound { result ≤ at + 9 + b / 10 + c / 10 }
 {
-    let second = put_number(out, at, a, b',');
-    let third = put_number(out, second, b, b',');
-    put_number(out, third, c, behind)
+    let behind_a = put_number(out, at, a, b',');
+    let behind_b = put_number(out, behind_a, b, b',');
+    put_number(out, behind_b, c, behind)
 }
 
 // The six counts of a segment, and the line's end.
@@ -33,8 +33,8 @@ fn put_counts(out: &mut [u8], at: usize, mode: Mode, kind: SegmentKind) -> usize
     ensures upper_bound { result ≤ at + 24 }
 {
     let k = kind_counts(mode, kind);
-    let tmcc = put_three(out, at, k.data, k.sp, k.cp, b',');
-    put_three(out, tmcc, k.tmcc, k.ac1, k.ac2, b'\n')
+    let behind_cp = put_three(out, at, k.data, k.sp, k.cp, b',');
+    put_three(out, behind_cp, k.tmcc, k.ac1, k.ac2, b'\n')
 }
 
 // A segment's line up to its counts: place, segment, kind, first carrier.
@@ -50,11 +50,11 @@ fn put_head(
     ensures put { Put out.old at (line_head place.0 seg.number letter carrier.0) result out.new }
     ensures upper_bound { result ≤ at + 13 }
 {
-    let number = put_number(out, at, place.0, b',');
-    let kind = put_number(out, number, seg.number, b',');
-    let comma = put_byte(out, kind, letter);
-    let lowest = put_byte(out, comma, b',');
-    put_number(out, lowest, carrier.0, b',')
+    let behind_place = put_number(out, at, place.0, b',');
+    let behind_number = put_number(out, behind_place, seg.number, b',');
+    let behind_letter = put_byte(out, behind_number, letter);
+    let behind_comma = put_byte(out, behind_letter, b',');
+    put_number(out, behind_comma, carrier.0, b',')
 }
 
 // The line of the segment at a place.
@@ -67,8 +67,8 @@ fn put_segment(out: &mut [u8], at: usize, question: Question, place: BandPlace) 
     let kind = question.kinds[seg.number];
     let letter = b'C' + u8::from(kind);
     let carrier = ofdm::band_carrier(question.mode, place, SegmentPlace(0));
-    let counts = put_head(out, at, place, seg, letter, carrier);
-    put_counts(out, counts, question.mode, kind)
+    let behind_head = put_head(out, at, place, seg, letter, carrier);
+    put_counts(out, behind_head, question.mode, kind)
 }
 
 // The thirteen lines of the segments, by place.
@@ -90,9 +90,9 @@ fn put_edge(out: &mut [u8], at: usize, mode: Mode) -> usize
     ensures put { Put out.old at (edge_line mode) result out.new }
     ensures upper_bound { result ≤ at + 24 }
 {
-    let carrier = put_text(out, at, b"13,E,E,");
-    let counts = put_number(out, carrier, mode.total_carriers() - 1, b',');
-    put_text(out, counts, b"0,0,0,0,0,0\n")
+    let behind_edge = put_text(out, at, b"13,E,E,");
+    let behind_carrier = put_number(out, behind_edge, mode.total_carriers() - 1, b',');
+    put_text(out, behind_carrier, b"0,0,0,0,0,0\n")
 }
 
 // The line of a refusal, by its number: the form of the line has room for any below 10000.
@@ -102,8 +102,8 @@ pub fn put_refused(out: &mut [u8], at: usize, code: usize) -> usize
     ensures put { Put out.old at (refused_line code) result out.new }
     ensures upper_bound { result ≤ at + 512 }
 {
-    let number = put_text(out, at, b"refused,");
-    put_number(out, number, code, b'\n')
+    let behind_word = put_text(out, at, b"refused,");
+    put_number(out, behind_word, code, b'\n')
 }
 
 // The answer to a line that is given whole.
@@ -114,8 +114,8 @@ pub fn put_answer(out: &mut [u8], at: usize, line: &[u8]) -> usize
 {
     match Question::parse(line) {
         Ok(question) => {
-            let edge = put_segments(out, at, question);
-            put_edge(out, edge, question.mode)
+            let behind_segments = put_segments(out, at, question);
+            put_edge(out, behind_segments, question.mode)
         }
         Err(refusal) => put_refused(out, at, u8::from(refusal) as usize),
     }

@@ -82,8 +82,7 @@ pub fn feed(line: Line, input: &[u8], from: usize, out: &mut [u8], at: usize) ->
 }
 
 // Stores what `segments` prints for a whole input, by way of a buffer for one piece after another.
-fn answer_pieces(input: &[u8], piece: &mut [u8], out: &mut [u8]) -> Result<usize, Cut>
-    requires { 512 ≤ length piece.old }
+fn answer_pieces(input: &[u8], piece: &mut [u8; ANSWER], out: &mut [u8]) -> Result<usize, Cut>
     ensures { PutCut out.old 0 (segments_prints input.now) result out.new }
 {
     let mut held = Line::new();
@@ -92,12 +91,12 @@ fn answer_pieces(input: &[u8], piece: &mut [u8], out: &mut [u8]) -> Result<usize
     // Each turn takes as many bytes as `feed` says, so no `for` goes over them.
     while from < input.len() {
         let fed = feed(held, input, from, piece, 0);
-        to = put_cut(out, to, piece, fed.written)?;
+        to = put_cut(out, to, &piece[..fed.written])?;
         held = fed.line;
         from = fed.used;
     }
     let n = finish(held, piece, 0);
-    put_cut(out, to, piece, n)
+    put_cut(out, to, &piece[..n])
 }
 
 // Stores what `segments` prints for a whole input, from the start of the buffer and as far as it

@@ -8,17 +8,19 @@
 // only the end of the input makes a whole line of one that lacks its line feed.
 #![tactic(auto)]
 
-ghost use Rattle.std.specs.Prelude.{◌≤◌, length, IfOk};
+ghost use Rattle.std.specs.Prelude.{IfOk};
 ghost use Rattle.segment_list.specs.Feed.{Leaves};
 
 use open_line::Line;
 use std::io;
 use std::io::{Stdin, Stdout, Write};
 
+// The bytes that are read at a time, and those of the answers that are kept until they are written.
+const BUFFER: usize = 65536;
+
 // Answers the lines that end in some bytes of the input: the line that is open after them. Each turn
 // takes as many bytes as `feed` says, so no `for` goes over them.
-fn answer(mut stdout: Stdout, line: Line, bytes: &[u8], out: &mut [u8]) -> io::Result<Line>
-    requires { 512 ≤ length out.old }
+fn answer(mut stdout: Stdout, line: Line, bytes: &[u8], out: &mut [u8; BUFFER]) -> io::Result<Line>
     ensures { IfOk result (λ held. Leaves line bytes.now held) }
 {
     let mut held = line;
@@ -38,10 +40,8 @@ fn read_once(
     stdout: Stdout,
     line: Line,
     buffer: &mut [u8],
-    out: &mut [u8],
-) -> io::Result<Option<Line>>
-    requires { 512 ≤ length out.old }
-{
+    out: &mut [u8; BUFFER],
+) -> io::Result<Option<Line>> {
     match reading::read(&mut stdin, buffer)? {
         Some(n) => Ok(Some(answer(stdout, line, &buffer[..n], out)?)),
         None => Ok(None),
@@ -49,17 +49,13 @@ fn read_once(
 }
 
 // Answers the last line, where it lacks its line feed.
-fn answer_last(mut stdout: Stdout, line: Line, out: &mut [u8]) -> io::Result<()>
-    requires { 512 ≤ length out.old }
-{
+fn answer_last(mut stdout: Stdout, line: Line, out: &mut [u8; BUFFER]) -> io::Result<()> {
     let n = open_line::finish(line, out, 0);
     stdout.write_all(&out[..n])
 }
 
 // Nothing says that the input ends, so the loop has more turns than any run uses up.
-fn run(stdin: Stdin, stdout: Stdout, buffer: &mut [u8], out: &mut [u8]) -> io::Result<()>
-    requires { 512 ≤ length out.old }
-{
+fn run(stdin: Stdin, stdout: Stdout, buffer: &mut [u8], out: &mut [u8; BUFFER]) -> io::Result<()> {
     let mut line = Line::new();
     for _ in 0..u64::MAX {
         match read_once(stdin, stdout, line, buffer, out)? {
@@ -71,8 +67,8 @@ fn run(stdin: Stdin, stdout: Stdout, buffer: &mut [u8], out: &mut [u8]) -> io::R
 }
 
 fn main(rt: HostRuntime) {
-    let mut buffer = [0u8; 65536];
-    let mut out = [0u8; 65536];
+    let mut buffer = [0u8; BUFFER];
+    let mut out = [0u8; BUFFER];
     // Nobody is left to tell of a read or a write that failed.
     let _ = run(rt.stdin(), rt.stdout(), &mut buffer, &mut out);
 }

@@ -33,17 +33,12 @@ pub fn refusal(len: usize, n: usize) -> Result<(), Refusal>
     if n == 0 {
         return Err(Refusal::NoSpectra);
     }
-    if len == 0 {
-        return Err(Refusal::NotWhole);
-    }
-    if n / 2 < len {
+    // the second test keeps 2 * len within a word
+    if len == 0 || n / 2 < len {
         return Err(Refusal::NotWhole);
     }
     let w = 2 * len;
-    if n % w != 0 {
-        return Err(Refusal::NotWhole);
-    }
-    if n / w > 1024 {
+    if n % w != 0 || n / w > 1024 {
         return Err(Refusal::NotWhole);
     }
     Ok(())

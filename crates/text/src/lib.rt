@@ -1,9 +1,11 @@
 // Text stored in a buffer that the caller lends: each function takes the index to start at and gives
 // the index behind what it stored.
-// The index stays beside the buffer: nothing is allocated, and a line's room is counted from it.
+// The index stays beside the buffer: each contract over a cursor that held both would also have to say
+// that it still holds the same buffer, by its ghost name.
+// Digits are put by hand: `write!` to a lent slice, by std's Cursor, says nothing of the bytes.
 #![tactic(auto)]
 
-ghost use Rattle.std.specs.Prelude.{[], ◌∷◌, ◌++◌, ◌<◌, ◌≤◌, ◌+◌, ◌/◌, length, take};
+ghost use Rattle.std.specs.Prelude.{[], ◌∷◌, ◌++◌, ◌<◌, ◌≤◌, ◌+◌, ◌/◌, length};
 ghost use Rattle.text.specs.Decimal.{decimal};
 ghost use Rattle.text.specs.Digits.{pair, few};
 ghost use Rattle.text.specs.Put.{Put, PutCut};
@@ -82,16 +84,15 @@ pub fn put_text(out: &mut [u8], at: usize, text: &[u8]) -> usize
 #[derive(Clone, Copy, Debug, PartialEq, Eq)]
 pub struct Cut;
 
-// The first n bytes of a text, stored as far as the buffer goes: the index behind all of them, or that
-// their end is cut off.
-pub fn put_cut(out: &mut [u8], at: usize, text: &[u8], n: usize) -> Result<usize, Cut>
-    requires { (at ≤ length out.old) × (n ≤ length text.now) }
-    ensures { PutCut out.old at (take n text.now) result out.new }
+// A text, stored as far as the buffer goes: the index behind all of it, or that its end is cut off.
+pub fn put_cut(out: &mut [u8], at: usize, text: &[u8]) -> Result<usize, Cut>
+    requires { at ≤ length out.old }
+    ensures { PutCut out.old at text.now result out.new }
 {
     let room = out.len() - at;
-    if room < n {
+    if room < text.len() {
         put_text(out, at, &text[..room]);
         return Err(Cut);
     }
-    Ok(put_text(out, at, &text[..n]))
+    Ok(put_text(out, at, text))
 }

@@ -10,17 +10,18 @@ use Rattle.ieee.specs.Nans.{is_the_nan}
 use Rattle.angle.specs.Angle.{circle_of, finite}
 use Rattle.angle.specs.Facts.{circle_most}
 use Rattle.angle.proofs.Sizes.{re_out, im_out}
+use Rattle.angle.proofs.circle_of.Goals.{then-is_nan-via-then-is_nan, then-is_nan-via-else-is_nan+then-is_nan-2}
 use Rattle.angle.proofs.circle_of.Goals as goal
 
 pub returns-then-is_nan : goal.returns-then-is_nan
 returns-then-is_nan c =
     let s = c.args in
-    (re_out s.re s.im (ap finite (is_the_nan s.re (sym c.is_nan.ensures.value ∙ c.if-is_nan.true))), omega arith)
-
-pub returns-then-is_nan-2 : goal.returns-then-is_nan-2
-returns-then-is_nan-2 c =
-    let s = c.args in
-    (im_out s.re s.im (ap finite (is_the_nan s.im (sym c.is_nan-2.ensures.value ∙ c.if-is_nan-2.true))), omega arith)
+    elim c.then-is_nan.branch [
+      | then-is_nan-via-then-is_nan w ↦
+          (re_out s.re s.im (ap finite (is_the_nan s.re (sym c.is_nan.ensures.value ∙ w.if-is_nan.true))), omega arith)
+      | then-is_nan-via-else-is_nan+then-is_nan-2 w ↦
+          (im_out s.re s.im (ap finite (is_the_nan s.im (sym w.is_nan-else-is_nan.ensures.value ∙ w.if-is_nan-2.true))), omega arith)
+    ]
 
 pub returns : goal.returns
 returns c =

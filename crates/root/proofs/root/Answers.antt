@@ -12,6 +12,8 @@ use Rattle.root.specs.Root.{root_of}
 use Rattle.ieee.specs.Nans.{is_the_nan, is_number}
 use Rattle.ieee.specs.Patterns.{no_nan_bits, bits_in}
 use Rattle.root.proofs.Cases.{root_negative, root_same, same_zero, same_minus, same_inf, root_nan, zero_by_zero}
+use Rattle.root.proofs.root.Goals.{then-b-eq9218868437227405312-via-then-b-eq9218868437227405312}
+use Rattle.root.proofs.root.Goals.{then-b-eq9218868437227405312-via-else-b-eq9218868437227405312+then-b}
 use Rattle.root.proofs.root.Goals as goal
 
 -- what owning an f64 tells: the format holds it
@@ -32,10 +34,12 @@ returns-then-b-lt9218868437227405312 c =
     c.positive_root.ensures.0 ∙ ap root_of (of_bits-to_bits binary64 c.args.x (held c.args.x c.well_formed.0.1))
 
 pub returns-then-b-eq9218868437227405312 : goal.returns-then-b-eq9218868437227405312
-returns-then-b-eq9218868437227405312 c = root_same c.args.x _ (held c.args.x c.well_formed.0.1) c.if-b-eq9218868437227405312.true same_inf
-
-pub returns-then-b : goal.returns-then-b
-returns-then-b c = root_same c.args.x _ (held c.args.x c.well_formed.0.1) c.if-b.true same_minus
+returns-then-b-eq9218868437227405312 c =
+    let h = held c.args.x c.well_formed.0.1 in
+    elim c.then-b-eq9218868437227405312.branch [
+      | then-b-eq9218868437227405312-via-then-b-eq9218868437227405312 w ↦ root_same c.args.x _ h w.if-b-eq9218868437227405312.true same_inf
+      | then-b-eq9218868437227405312-via-else-b-eq9218868437227405312+then-b w ↦ root_same c.args.x _ h w.if-b.true same_minus
+    ]
 
 pub returns : goal.returns
 returns c =

@@ -7,4 +7,4 @@ use Rattle.root.proofs.Finished.{half}
 use Rattle.root.proofs.root_of_units.Goals as goal
 
 pub returns : goal.returns
-returns c = subst (λ (n : ℕ). RootBits n c.root_bits.result) (half c.args.m c.args.k).2 c.root_bits.ensures
+returns c = subst (λ (n : ℕ). RootBits n c.root_bits.result) (half c.args.m c.args.k).2 (rw c.new.ensures at c.root_bits.ensures)

@@ -9,4 +9,4 @@ pub returns-clause-put : goal.returns-clause-put
 returns-clause-put c =
     let r = c.kind_counts-k.result in
     put_as (ap counts_line (sym c.kind_counts-k.ensures))
-    (then {s = three r.«data» r.sp r.cp 44} {t = three r.tmcc r.ac1 r.ac2 10} c.put_three-tmcc.ensures.put c.put_three.ensures.put)
+    (then {s = three r.«data» r.sp r.cp 44} {t = three r.tmcc r.ac1 r.ac2 10} c.put_three-behind_cp.ensures.put c.put_three.ensures.put)

@@ -6,4 +6,5 @@ use Rattle.segment_answer.proofs.put_edge.Goals as goal
 
 pub returns-clause-put : goal.returns-clause-put
 unfolding edge_line
-returns-clause-put c = put_as (rw c.total_carriers.ensures) (then c.put_text-carrier.ensures (then c.put_number-counts.ensures.put c.put_text.ensures))
+returns-clause-put c =
+    put_as (rw c.total_carriers.ensures) (then c.put_text-behind_edge.ensures (then c.put_number-behind_carrier.ensures.put c.put_text.ensures))

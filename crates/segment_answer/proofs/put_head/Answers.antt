@@ -5,5 +5,5 @@ use Rattle.segment_answer.proofs.put_head.Goals as goal
 
 pub returns-clause-put : goal.returns-clause-put
 returns-clause-put c =
-    then c.put_number-number.ensures.put
-    (then c.put_number-kind.ensures.put (then c.put_byte-comma.ensures (then c.put_byte-lowest.ensures c.put_number.ensures.put)))
+    then c.put_number-behind_place.ensures.put
+    (then c.put_number-behind_number.ensures.put (then c.put_byte-behind_letter.ensures (then c.put_byte-behind_comma.ensures c.put_number.ensures.put)))

@@ -1,15 +1,15 @@
 -- `text::put_cut` meets its contract: text that is too long is stored as far as the buffer goes.
 -- Assumes nothing.
-use native.Mathlib.Omega.{arith}
-use lib.ListN.{length-take}
-use Rattle.text.specs.Laws.{front_cut, whole_cut}
+use Rattle.std.proofs.Common.{arith, sym, length, take_all}
+use Rattle.text.specs.Laws.{cut_as, front_cut, whole_cut}
 use Rattle.text.proofs.put_cut.Goals as goal
 
-pub returns-then-room-n : goal.returns-then-room-n
-returns-then-room-n c =
-    front_cut c.args.text.now c.args.n c.put_text.ensures (omega arith) (omega arith) (omega arith)
+pub returns-then-room-text : goal.returns-then-room-text
+returns-then-room-text c =
+    let t = c.args.text.now in
+    cut_as (sym (take_all (length t) t (omega arith))) (front_cut t (length t) c.put_text.ensures (omega arith) (omega arith) (omega arith))
 
 pub returns : goal.returns
 returns c =
     let p = c.put_text-2.ensures in
-    whole_cut p (omega (arith, simp length-take at p.next))
+    whole_cut p (omega (arith, p.next))
