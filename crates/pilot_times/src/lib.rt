@@ -67,9 +67,8 @@ impl Current {
         ensures { result ≡ at_least_one self }
     {
         Current {
-            phase: self.phase,
-            index: self.index,
             w: self.w.max(1),
+            ..self
         }
     }
 
@@ -118,14 +117,14 @@ fn sent_in(win: Window, offsets: Offsets) -> Sent
     if offsets.count <= before || win.count <= first {
         return Sent {
             first: 0,
-            step: step,
+            step,
             count: 0,
         };
     }
     let room = (win.count - 1 - first) / step + 1;
     Sent {
-        first: first,
-        step: step,
+        first,
+        step,
         count: room.min(offsets.count - before),
     }
 }
@@ -148,34 +147,44 @@ pub fn offset(win: Window, s: usize) -> f32
     (s as i64 - win.current.index as i64) as f32
 }
 
-// The mean of the offsets.
-#[tactic(auto, using(crate::specs::Summing::mean_is))]
-fn mean_offset(win: Window, sent: Sent) -> f32
-    requires { Inside 1024 sent × (win.current.index ≤ 1024) }
-    ensures { result ≡ mean (offsets_of win sent) }
-{
-    sum_of_offsets(win, sent) / sent.count as f32
+// A window, and the spectra of it in which a carrier's pilot is sent.
+#[derive(Clone, Copy)]
+struct Found {
+    win: Window,
+    sent: Sent,
+    ghost inside: { Inside 1024 sent },
+    ghost current: { win.current.index ≤ 1024 },
 }
 
-// The sum of the offsets.
-fn sum_of_offsets(win: Window, sent: Sent) -> f32
-    requires { Inside 1024 sent × (win.current.index ≤ 1024) }
-    ensures { result ≡ sum_at (offset_of win) sent }
-{
-    (0..sent.count).map(|i| offset(win, sent.spectrum(i))).sum()
-}
+impl Found {
+    // The mean of the offsets.
+    #[tactic(auto, using(crate::specs::Summing::mean_is))]
+    fn mean_offset(self) -> f32
+        ensures { result ≡ mean (offsets_of self.win self.sent) }
+    {
+        self.sum_of_offsets() / self.sent.count as f32
+    }
 
-// How far the offsets are spread about their mean.
-fn spread_about(win: Window, sent: Sent, mean: f32) -> f32
-    requires { Inside 1024 sent × (win.current.index ≤ 1024) }
-    ensures { result ≡ sum_at (λ s. squared mean (offset_of win s)) sent }
-{
-    (0..sent.count)
-        .map(|i| {
-            let x = offset(win, sent.spectrum(i)) - mean;
-            x * x
-        })
-        .sum()
+    // The sum of the offsets.
+    fn sum_of_offsets(self) -> f32
+        ensures { result ≡ sum_at (offset_of self.win) self.sent }
+    {
+        (0..self.sent.count)
+            .map(|i| offset(self.win, self.sent.spectrum(i)))
+            .sum()
+    }
+
+    // How far the offsets are spread about their mean.
+    fn spread_about(self, mean: f32) -> f32
+        ensures { result ≡ sum_at (λ s. squared mean (offset_of self.win s)) self.sent }
+    {
+        (0..self.sent.count)
+            .map(|i| {
+                let x = offset(self.win, self.sent.spectrum(i)) - mean;
+                x * x
+            })
+            .sum()
+    }
 }
 
 // The times of a carrier whose pilot is sent at the offsets.
@@ -185,8 +194,9 @@ fn times_at(win: Window, offsets: Offsets) -> Times
     ensures { TimesOf win offsets result }
 {
     let sent = sent_in(win, offsets);
-    let mean = mean_offset(win, sent);
-    let spread = spread_about(win, sent, mean);
+    let found = Found { win, sent };
+    let mean = found.mean_offset();
+    let spread = found.spread_about(mean);
     Times { sent, mean, spread }
 }
 
