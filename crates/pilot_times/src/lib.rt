@@ -8,10 +8,11 @@
 ghost use Rattle.std.specs.Prelude.{◌≡◌, ◌≤◌, ◌<◌};
 ghost use Rattle.pilot_times.specs.Window.{at_least_one, scattered_offsets, continual_offsets, offset_of, mean, squared};
 ghost use Rattle.pilot_times.specs.Inner.{spectrum_of, Inside, Counted, Searchable, Skippable, Skipped, Reached, offsets_of, sum_at, TimesOf};
-ghost use Rattle.pilot_times.specs.Inner.{Usable, ScatteredAgo, ScatteredTimes, SentAgo, ContinualTimes};
+ghost use Rattle.pilot_times.specs.Inner.{Usable, ScatteredTimes, SentAgo, ContinualTimes};
 
 // The symbol that a grid is asked for: the phase of its scattered pilots, its index among the spectra,
 // and how many scattered pilots of a carrier count on each side of it.
+// The phase is no `Phase`: a host may give any number, which `estimate_grid` refuses; the type would ask more.
 #[derive(Clone, Copy)]
 pub struct Current {
     pub phase: u8,
@@ -20,7 +21,7 @@ pub struct Current {
 }
 
 // `count` spectra of `len` carriers, and the current one among them.
-// No ghost field says that it is among them: `offset` takes any window, and its type would ask more.
+// No ghost field says that it is among them: `offset` asks only for an index of at most 1,024, and would ask more.
 #[derive(Clone, Copy)]
 pub struct Window {
     pub len: usize,
@@ -200,27 +201,13 @@ fn times_at(win: Window, offsets: Offsets) -> Times
     Times { sent, mean, spread }
 }
 
-// The times of the scattered pilots that were sent last `back` symbols ago, w on each side of the current
-// symbol.
-fn scattered_ago(win: Window, back: usize) -> Times
-    requires { Usable win × (back < 4) }
-    ensures { ScatteredAgo win back result }
-{
-    times_at(win, win.current.scattered_offsets(back))
-}
-
-// The times of the scattered pilots.
+// The times of the scattered pilots, w on each side of the current symbol.
 pub fn scattered_times(win: Window) -> Scattered
     requires { Usable win }
     ensures { ScatteredTimes win result }
 {
     Scattered {
-        ago: [
-            scattered_ago(win, 0),
-            scattered_ago(win, 1),
-            scattered_ago(win, 2),
-            scattered_ago(win, 3),
-        ],
+        ago: std::array::from_fn(|back| times_at(win, win.current.scattered_offsets(back))),
     }
 }
 
