@@ -43,6 +43,7 @@ pub struct Pilot {
 #[derive(Clone, Copy)]
 pub struct Ballot {
     // The phase with the greatest metric, as the symbol itself has it.
+    // No `Phase`: the definition of a ballot would have to prove it below 4 where it only works it out.
     pub choice: u8,
     // Whether the pilots of at least one of the four phases have energy.
     pub heard: bool,
