@@ -43,6 +43,7 @@ pub struct Pilot {
 #[derive(Clone, Copy)]
 pub struct Ballot {
     // The phase with the greatest metric, as the symbol itself has it.
+    // No `Phase`: the definition of a ballot would have to prove it below 4 where it only works it out.
     pub choice: u8,
     // Whether the pilots of at least one of the four phases have energy.
     pub heard: bool,
@@ -77,11 +78,13 @@ impl Run {
     }
 }
 
-// A spectrum, and the sign of each of its carriers.
+// A spectrum of a layout, and the sign of each of its carriers.
 #[derive(Clone, Copy)]
 struct Signed<'a> {
+    layout: FrameLayout,
     y: &'a [f32],
     signs: &'a [u8],
+    ghost spectrum: { Spectrum layout.mode (length y.now) signs.now },
     ghost as_many: { length y.now ≡ 2 * length signs.now },
     ghost few: { length signs.now ≤ 5617 },
 }
@@ -120,11 +123,10 @@ impl Signed<'_> {
     }
 
     // How coherent the pilots of a phase are, if they have energy: a NaN is not above zero.
-    fn phase_metric(&self, layout: FrameLayout, phase: Phase) -> Option<f32>
-        requires { Spectrum layout.mode (length self.now.y.now) self.now.signs.now }
-        ensures { result ≡ coherence layout.mode (kind_codes layout.kinds) (pair_at self.now.y.now) phase.number }
+    fn phase_metric(&self, phase: Phase) -> Option<f32>
+        ensures { result ≡ coherence self.now.layout.mode (kind_codes self.now.layout.kinds) (pair_at self.now.y.now) phase.number }
     {
-        let mode = layout.mode;
+        let mode = self.layout.mode;
         let c = mode.carriers_per_segment();
         let mut run = Run {
             last: None,
@@ -133,7 +135,7 @@ impl Signed<'_> {
         };
         for place in 0..13 {
             let here = BandPlace(place);
-            match layout.kind(ofdm::segment_at_position(here)) {
+            match self.layout.kind(ofdm::segment_at_position(here)) {
                 SegmentKind::Coherent => {
                     let lowest = ofdm::band_carrier(
                         mode,
@@ -160,12 +162,12 @@ pub fn ballot_of(layout: FrameLayout, y: &[f32], signs: &[u8]) -> Ballot
     requires { Spectrum layout.mode (length y.now) signs.now }
     ensures { result ≡ ballot_of layout.mode (kind_codes layout.kinds) (pair_at y.now) }
 {
-    let spectrum = Signed { y, signs };
+    let spectrum = Signed { layout, y, signs };
     let mut best: u8 = 0;
     let mut metric = MINUS_ONE;
     let mut heard = false;
     for phase in 0..4 {
-        let found = spectrum.phase_metric(layout, Phase { number: phase });
+        let found = spectrum.phase_metric(Phase { number: phase });
         // A phase without energy is compared by 0.0.
         let m = found.unwrap_or(0.0);
         if m > metric {

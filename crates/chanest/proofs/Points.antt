@@ -18,7 +18,7 @@ use Rattle.pilot_times.specs.declared.Offsets.{Offsets}
 use Rattle.pilot_times.specs.declared.Times.{Times}
 use Rattle.pilot_times.specs.declared.Scattered.{Scattered}
 use Rattle.pilot_times.specs.Window.{scattered_offsets, in_window}
-use Rattle.pilot_times.specs.Inner.{TimesOf, ScatteredTimes}
+use Rattle.pilot_times.specs.Inner.{TimesOf, ScatteredTimes, SentAgo}
 use Rattle.pilot_line.specs.Estimate.{inverse_of, estimate_of}
 use Rattle.chanest.specs.Grid.{carrier_of, back_of, segment_points, estimate_at}
 use Rattle.chanest.specs.Places.{pointed}
@@ -30,10 +30,9 @@ abbrev pub window_at : Window → List Float → List ℕ → BandCarrier → Of
 window_at win xs signs k o = estimate_of win xs k (inverse_of (get_or signs k.0 0)) (in_window win o)
 
 -- the times of the pilots that were sent last as many symbols ago as point i's
-pub sent_ago : (win : Window) (s : Scattered) → ScatteredTimes win s → {back : ℕ} (i : ℕ) → back ≡ back_of win.current i → back < 4 → (none : Times)
-    → TimesOf win (scattered_offsets win.current (back_of win.current i)) (get_or s.ago back none)
-sent_ago win s t {back} i e l none =
-    subst (λ (b : ℕ). TimesOf win (scattered_offsets win.current b) (get_or s.ago back none)) e (t back none l)
+pub sent_ago : (win : Window) (s : Scattered) → ScatteredTimes win s → {back : ℕ} (i : ℕ) → back ≡ back_of win.current i → {r : Times} → SentAgo s back r
+    → TimesOf win (scattered_offsets win.current (back_of win.current i)) r
+sent_ago win s t i e {r} sent = subst (λ (b : ℕ). TimesOf win (scattered_offsets win.current b) r) e (sent.ago win t)
 
 -- a point of the band; of a segment that ends within it, where c is the code's count of the segment's carriers
 module _ (mode : Mode) where

@@ -98,7 +98,7 @@ impl<'a> Capture<'a> {
     {
         for i in from.0..from.0 + mode.carriers_per_segment() / 3 {
             let point = GridPoint(i);
-            let times = scattered.ago[point.back(self.win.current)];
+            let times = scattered.at(point.back(self.win.current));
             self.write_point(times, point, out);
         }
     }

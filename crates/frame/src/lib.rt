@@ -75,6 +75,7 @@ impl From<CarrierRole> for u8 {
 }
 
 // Whether a place of a coherent segment is a scattered pilot at a phase (Figure 3-30).
+// It takes any number, not a `Phase`, which would ask more of callers.
 pub fn is_sp(p: SegmentPlace, phase: u8) -> bool
     ensures { result ≡ is_sp Coherent phase p.0 }
 {
@@ -93,19 +94,19 @@ pub fn is_between(low: u8, high: u8, b: u8) -> bool
 }
 
 // The role of a place so far as pilots decide it: the rest is data until the tables are marked.
-fn pilot_role(kind: SegmentKind, phase: u8, p: SegmentPlace) -> CarrierRole
-    ensures { result ≡ pilot_role kind phase p.0 }
+fn pilot_role(kind: SegmentKind, phase: Phase, p: SegmentPlace) -> CarrierRole
+    ensures { result ≡ pilot_role kind phase.number p.0 }
 {
     match kind {
-        SegmentKind::Coherent if is_sp(p, phase) => CarrierRole::Sp,
+        SegmentKind::Coherent if is_sp(p, phase.number) => CarrierRole::Sp,
         SegmentKind::Differential if p.0 == 0 => CarrierRole::Cp,
         _ => CarrierRole::Data,
     }
 }
 
 // A segment's pilots, everything else data.
-fn write_pilots(kind: SegmentKind, phase: u8, out: &mut [u8])
-    ensures { out.new ≡ up_to (pilot_byte kind phase) (length out.old) }
+fn write_pilots(kind: SegmentKind, phase: Phase, out: &mut [u8])
+    ensures { out.new ≡ up_to (pilot_byte kind phase.number) (length out.old) }
 {
     for p in 0..out.len() {
         out[p] = u8::from(pilot_role(kind, phase, SegmentPlace(p)));
@@ -129,7 +130,7 @@ pub fn segment_roles(mode: Mode, seg: Segment, kind: SegmentKind, phase: Phase, 
     requires { length out.old ≡ carriers_per_segment mode }
     ensures { out.new ≡ segment_roles mode phase.number (ofdm_segment seg.number kind) }
 {
-    write_pilots(kind, phase.number, out);
+    write_pilots(kind, phase, out);
     mark(
         tables::tmcc_positions(mode, kind, seg),
         CarrierRole::Tmcc,

@@ -11,7 +11,7 @@ ghost use Rattle.pilot_line.specs.Inner.{Spanned, Fitting, value_in};
 
 use complex::C32;
 use ofdm::BandCarrier;
-use pilot_times::{Sent, Times, Window};
+use pilot_times::{Times, Window};
 
 // 1.0 divided by the pilots' amplitude, as f32.
 const INVERSE_AMPLITUDE: f32 = 0.75;
@@ -27,15 +27,19 @@ fn inverse_pilot(sign: u8) -> f32
     }
 }
 
-// A carrier's values in the spectra of a window, each times `inverse`, which takes its pilot off.
+// A carrier's values in the spectra of a window, each times `inverse`, which takes its pilot off, and the
+// times of its pilot.
 #[derive(Clone, Copy)]
 struct CarrierValues<'a> {
     win: Window,
     spectra: &'a [f32],
     k: BandCarrier,
     inverse: f32,
+    times: Times,
     ghost spanned: { Spanned win (length spectra.now) },
     ghost carrier: { k.0 < win.len },
+    ghost inside: { Inside win.count times.sent },
+    ghost timed: { Timed win times },
 }
 
 impl CarrierValues<'_> {
@@ -49,30 +53,28 @@ impl CarrierValues<'_> {
 
     // The mean of the values in the spectra that have the pilot.
     #[tactic(auto, using(crate::proofs::Summing::sum_none, crate::proofs::Summing::sum_more))]
-    fn mean(&self, sent: Sent) -> C32
-        requires { Inside self.now.win.count sent }
-        ensures { of32 result ≡ mean_pair (map (value_in self.now.win self.now.spectra.now self.now.k self.now.inverse) (spectra_of sent)) }
+    fn mean(&self) -> C32
+        ensures { of32 result ≡ mean_pair (map (value_in self.now.win self.now.spectra.now self.now.k self.now.inverse) (spectra_of self.now.times.sent)) }
     {
         let mut sum = C32::new(0.0, 0.0);
-        for i in 0..sent.count {
-            sum = sum + self.value_in(sent.spectrum(i));
+        for i in 0..self.times.sent.count {
+            sum = sum + self.value_in(self.times.sent.spectrum(i));
         }
-        sum.unscale(sent.count as f32)
+        sum.unscale(self.times.sent.count as f32)
     }
 
     // The values' and the offsets' distances from their means, multiplied and summed. It shares with `mean`
     // only that complex numbers are added, so the loops stay two.
     #[tactic(auto, using(crate::proofs::Summing::sum_none, crate::proofs::Summing::sum_more, crate::proofs::Summing::term_is))]
-    fn slope_sum(&self, times: Times, middle: C32) -> C32
-        requires { Inside self.now.win.count times.sent }
-        ensures { of32 result ≡ slope_sum times.mean (of32 middle)
-            (points_in self.now.win self.now.spectra.now self.now.k self.now.inverse (spectra_of times.sent)) }
+    fn slope_sum(&self, middle: C32) -> C32
+        ensures { of32 result ≡ slope_sum self.now.times.mean (of32 middle)
+            (points_in self.now.win self.now.spectra.now self.now.k self.now.inverse (spectra_of self.now.times.sent)) }
     {
         let mut slope = C32::new(0.0, 0.0);
-        for i in 0..times.sent.count {
-            let s = times.sent.spectrum(i);
+        for i in 0..self.times.sent.count {
+            let s = self.times.sent.spectrum(i);
             let v = self.value_in(s) - middle;
-            slope = slope + v.scale(pilot_times::offset(self.win, s) - times.mean);
+            slope = slope + v.scale(pilot_times::offset(self.win, s) - self.times.mean);
         }
         slope
     }
@@ -80,19 +82,19 @@ impl CarrierValues<'_> {
     // The least-squares line through the values at the current symbol. A single value is taken as it
     // is, and values that are not spread give their mean.
     #[tactic(auto, using(crate::proofs::Fitted::one_is, crate::proofs::Fitted::flat_is, crate::proofs::Fitted::at_zero_is))]
-    fn line_at_zero(&self, times: Times) -> C32
-        requires { Inside self.now.win.count times.sent × Timed self.now.win times × (0 < times.sent.count) }
-        ensures { of32 result ≡ estimate_of self.now.win self.now.spectra.now self.now.k self.now.inverse (spectra_of times.sent) }
+    fn line_at_zero(&self) -> C32
+        requires { 0 < self.now.times.sent.count }
+        ensures { of32 result ≡ estimate_of self.now.win self.now.spectra.now self.now.k self.now.inverse (spectra_of self.now.times.sent) }
     {
-        if times.sent.count == 1 {
-            return self.value_in(times.sent.first);
+        if self.times.sent.count == 1 {
+            return self.value_in(self.times.sent.first);
         }
-        let middle = self.mean(times.sent);
-        if times.spread <= 0.0 {
+        let middle = self.mean();
+        if self.times.spread <= 0.0 {
             return middle;
         }
-        let slope = self.slope_sum(times, middle).unscale(times.spread);
-        middle + slope.scale(0.0 - times.mean)
+        let slope = self.slope_sum(middle).unscale(self.times.spread);
+        middle + slope.scale(0.0 - self.times.mean)
     }
 }
 
@@ -111,6 +113,7 @@ pub fn estimate_at(win: Window, times: Times, spectra: &[f32], k: BandCarrier, s
         spectra,
         k,
         inverse: inverse_pilot(sign),
+        times,
     };
-    values.line_at_zero(times)
+    values.line_at_zero()
 }

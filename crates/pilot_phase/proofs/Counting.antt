@@ -27,7 +27,7 @@ use Rattle.pilot_phase.specs.PilotPhase.{vote_of, votes_from, votes, heard_votes
 use Rattle.pilot_phase.specs.Facts.{votes_length, counts_length, counts_at, count_few, count_append, votes_more}
 use Rattle.pilot_phase.specs.Heard.{heard_more, heard_few}
 use Rattle.ballots.specs.Changed.{ballot_alike}
-use Rattle.pilot_phase.specs.Inner.{Votable, VoteCountsOf}
+use Rattle.pilot_phase.specs.Inner.{Whole, VoteCountsOf}
 
 -- ---- a vote more
 module _ (vs : List ℕ) (x : ℕ) (h : x < 4) where
@@ -99,20 +99,20 @@ unfolding counts_of count_of votes_from heard_votes_from
 begin = record { counted = refl; listened = refl }
 
 -- w is the code's count of a spectrum's floats
-module _ (xs : List Float) {mode : Mode} {w : ℕ} (floats : w ≡ 2 * total_carriers mode) {signs : List ℕ} (p : Votable mode (length xs) signs)
+module _ (xs : List Float) {mode : Mode} {w : ℕ} (floats : w ≡ 2 * total_carriers mode) (p : Whole mode (length xs))
     {j : ℕ} (h : j < length xs / w) where
   inside : j < spectra_here mode xs
   inside = rw floats at h
 
   whole : length xs ≡ spectra_here mode xs * w
-  whole = rw floats (omega (arith, div-add-mod' (length xs) (2 * total_carriers mode), p.spectra.whole))
+  whole = rw floats (omega (arith, div-add-mod' (length xs) (2 * total_carriers mode), p.whole))
 
   -- spectrum j ends within the floats
   pub within : (j * w + w ≤ length xs) × (length xs ≤ 11503616) × (j < 1024)
   within =
-      let f = mul-le-mul_right w p.spectra.few in
+      let f = mul-le-mul_right w p.few in
       let room : j * w + w ≤ spectra_here mode xs * w = rw (suc-mul j w) at (mul-le-mul_right w inside) in
-      (omega (arith, room, whole), omega (arith, whole, f, floats, (sized mode).band_high), omega (arith, inside, p.spectra.few))
+      (omega (arith, room, whole), omega (arith, whole, f, floats, (sized mode).band_high), omega (arith, inside, p.few))
 
   abbrev part : List Float
   part = take (j * w + w - j * w) (drop (j * w) xs)

@@ -4,7 +4,6 @@ use Rattle.std.specs.Prelude.{ℕ, ◌*◌, ◌%◌, ◌≤◌, ◌<◌, cond, L
 use Rattle.params.specs.declared.Mode.{Mode}
 use Rattle.params.specs.Params.{total_carriers}
 use Rattle.spectra.specs.Spectra.{spectra_in}
-use Rattle.prbs.specs.Signs.{band_signs}
 use Rattle.ballots.specs.declared.Ballot.{Ballot}
 use Rattle.ballots.specs.Ballots.{pilots, ballots}
 use Rattle.winner.specs.Winner.{won_by, share_of, lead_of}
@@ -18,11 +17,6 @@ use Rattle.pilot_phase.specs.PilotPhase.{votes, counts_of, heard_counts, detecte
 pub record Whole (mode : Mode) (n : ℕ) : Type 0 where
   pub whole : n % (2 * total_carriers mode) ≡ 0
   pub few : spectra_in (total_carriers mode) n ≤ 1024
-
--- with the band's signs
-pub record Votable (mode : Mode) (n : ℕ) (signs : List ℕ) : Type 0 where
-  pub spectra : Whole mode n
-  pub signed : signs ≡ band_signs mode
 
 -- the counts of the votes of all ballots, and of those that were heard
 pub record VoteCountsOf (bs : List Ballot) (r : VoteCounts) : Type 0 where

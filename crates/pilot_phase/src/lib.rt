@@ -7,14 +7,16 @@
 ghost use Rattle.std.specs.Prelude.{◌≡◌, length};
 ghost use Rattle.params.specs.Params.{mode_from, total_carriers, kind_codes};
 ghost use Rattle.spectra.specs.Spectra.{are_spectra};
+ghost use Rattle.prbs.specs.Signs.{band_signs};
 ghost use Rattle.ballots.specs.Ballots.{ballots};
 ghost use Rattle.pilot_phase.specs.PilotPhase.{PhaseDetected};
-ghost use Rattle.pilot_phase.specs.Inner.{Whole, Votable, VoteCountsOf, Counted, told, pilot_answer};
+ghost use Rattle.pilot_phase.specs.Inner.{Whole, VoteCountsOf, Counted, told, pilot_answer};
 
 use frame::FrameLayout;
 use params::{Mode, Refusal};
 
 // The phase of symbol 0, and the share of the votes for it. Symbol j has phase (phase + j) % 4.
+// No `Phase`: specs/ works it out of counts, and would have to prove it below 4 beside the definition.
 #[derive(Clone, Copy)]
 pub struct PilotPhase {
     pub phase: u8,
@@ -37,39 +39,6 @@ pub struct VoteCounts {
     pub heard: [u32; 4],
 }
 
-// The votes of all spectra, and of those that were heard, counted by the signs of the carriers.
-fn count_votes(layout: FrameLayout, spectra: &[f32], signs: &[u8]) -> VoteCounts
-    requires { Votable layout.mode (length spectra.now) signs.now }
-    ensures { VoteCountsOf (ballots layout.mode (kind_codes layout.kinds) spectra.now) result }
-{
-    let mode = layout.mode;
-    let w = 2 * mode.total_carriers();
-    let mut all = [0u32; 4];
-    let mut heard = [0u32; 4];
-    // By numbers: the proof over `chunks_exact(w).enumerate()` did not close.
-    for j in 0..spectra.len() / w {
-        let from = j * w;
-        let ballot = ballots::ballot_of(layout, &spectra[from..from + w], signs);
-        let vote = (ballot.choice as usize + 4 - j % 4) % 4;
-        all[vote] += 1;
-        heard[vote] += ballot.heard as u32;
-    }
-    VoteCounts { all, heard }
-}
-
-// The same, by the signs of the band, which stand in the front of a buffer with room for every mode: nothing
-// is allocated.
-fn band_votes(layout: FrameLayout, spectra: &[f32]) -> VoteCounts
-    requires { Whole layout.mode (length spectra.now) }
-    ensures { VoteCountsOf (ballots layout.mode (kind_codes layout.kinds) spectra.now) result }
-{
-    let mode = layout.mode;
-    let k = mode.total_carriers();
-    let mut buffer = [0u8; 5617];
-    prbs::band_w(mode, &mut buffer[..k]);
-    count_votes(layout, spectra, &buffer[..k])
-}
-
 // What the counts of the votes of `total` spectra tell.
 fn counted(counts: VoteCounts, total: usize) -> PilotAnswer
     requires { Counted counts.all total }
@@ -89,21 +58,62 @@ fn counted(counts: VoteCounts, total: usize) -> PilotAnswer
     }
 }
 
-// What an accepted call answers: where no segment is coherent, there are no scattered pilots, and nothing
-// is counted.
-fn accepted(layout: FrameLayout, spectra: &[f32]) -> PilotAnswer
-    requires { Whole layout.mode (length spectra.now) }
-    ensures { result ≡ pilot_answer layout.mode (kind_codes layout.kinds) spectra.now }
-{
-    if !ballots::has_pilots(layout) {
-        return PilotAnswer {
-            phase: None,
-            counts: [0; 4],
-            lead: 0,
-        };
+// Spectra of a layout, whole ones.
+#[derive(Clone, Copy)]
+struct Recording<'a> {
+    layout: FrameLayout,
+    spectra: &'a [f32],
+    ghost whole: { Whole layout.mode (length spectra.now) },
+}
+
+impl Recording<'_> {
+    // The votes of all spectra, and of those that were heard, counted by the signs of the carriers.
+    fn count_votes(&self, signs: &[u8]) -> VoteCounts
+        requires { signs.now ≡ band_signs self.now.layout.mode }
+        ensures { VoteCountsOf (ballots self.now.layout.mode (kind_codes self.now.layout.kinds) self.now.spectra.now) result }
+    {
+        let mode = self.layout.mode;
+        let w = 2 * mode.total_carriers();
+        let mut all = [0u32; 4];
+        let mut heard = [0u32; 4];
+        // By numbers: the proof over `chunks_exact(w).enumerate()` did not close.
+        for j in 0..self.spectra.len() / w {
+            let from = j * w;
+            let ballot = ballots::ballot_of(self.layout, &self.spectra[from..from + w], signs);
+            let vote = (ballot.choice as usize + 4 - j % 4) % 4;
+            all[vote] += 1;
+            heard[vote] += ballot.heard as u32;
+        }
+        VoteCounts { all, heard }
     }
-    let w = 2 * layout.mode.total_carriers();
-    counted(band_votes(layout, spectra), spectra.len() / w)
+
+    // The same, by the signs of the band, which stand in the front of a buffer with room for every mode:
+    // nothing is allocated.
+    fn band_votes(&self) -> VoteCounts
+        ensures { VoteCountsOf (ballots self.now.layout.mode (kind_codes self.now.layout.kinds) self.now.spectra.now) result }
+    {
+        let mode = self.layout.mode;
+        let k = mode.total_carriers();
+        let mut buffer = [0u8; 5617];
+        prbs::band_w(mode, &mut buffer[..k]);
+        self.count_votes(&buffer[..k])
+    }
+
+    // What an accepted call answers: where no segment is coherent, there are no scattered pilots, and
+    // nothing is counted.
+    fn answer(&self) -> PilotAnswer
+        ensures { result ≡ pilot_answer self.now.layout.mode (kind_codes self.now.layout.kinds) self.now.spectra.now }
+    {
+        if !ballots::has_pilots(self.layout) {
+            return PilotAnswer {
+                phase: None,
+                counts: [0; 4],
+                lead: 0,
+            };
+        }
+        let w = 2 * self.layout.mode.total_carriers();
+        counted(self.band_votes(), self.spectra.len() / w)
+    }
 }
 
 // Whether n floats are whole spectra, at most 1,024.
@@ -126,5 +136,6 @@ pub fn detect_sp_phase(mode: u8, kinds: &[u8], spectra: &[f32]) -> Result<PilotA
     if !are_whole(layout.mode, spectra.len()) {
         return Err(Refusal::NotWhole);
     }
-    Ok(accepted(layout, spectra))
+    let recording = Recording { layout, spectra };
+    Ok(recording.answer())
 }

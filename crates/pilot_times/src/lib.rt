@@ -8,10 +8,11 @@
 ghost use Rattle.std.specs.Prelude.{◌≡◌, ◌≤◌, ◌<◌};
 ghost use Rattle.pilot_times.specs.Window.{at_least_one, scattered_offsets, continual_offsets, offset_of, mean, squared};
 ghost use Rattle.pilot_times.specs.Inner.{spectrum_of, Inside, Counted, Searchable, Skippable, Skipped, Reached, offsets_of, sum_at, TimesOf};
-ghost use Rattle.pilot_times.specs.Inner.{Usable, ScatteredAgo, ScatteredTimes, SentAgo, ContinualTimes};
+ghost use Rattle.pilot_times.specs.Inner.{Usable, ScatteredTimes, SentAgo, ContinualTimes};
 
 // The symbol that a grid is asked for: the phase of its scattered pilots, its index among the spectra,
 // and how many scattered pilots of a carrier count on each side of it.
+// The phase is no `Phase`: a host may give any number, which `estimate_grid` refuses; the type would ask more.
 #[derive(Clone, Copy)]
 pub struct Current {
     pub phase: u8,
@@ -20,7 +21,7 @@ pub struct Current {
 }
 
 // `count` spectra of `len` carriers, and the current one among them.
-// No ghost field says that it is among them: `offset` takes any window, and its type would ask more.
+// No ghost field says that it is among them: `offset` asks only for an index of at most 1,024, and would ask more.
 #[derive(Clone, Copy)]
 pub struct Window {
     pub len: usize,
@@ -67,9 +68,8 @@ impl Current {
         ensures { result ≡ at_least_one self }
     {
         Current {
-            phase: self.phase,
-            index: self.index,
             w: self.w.max(1),
+            ..self
         }
     }
 
@@ -118,14 +118,14 @@ fn sent_in(win: Window, offsets: Offsets) -> Sent
     if offsets.count <= before || win.count <= first {
         return Sent {
             first: 0,
-            step: step,
+            step,
             count: 0,
         };
     }
     let room = (win.count - 1 - first) / step + 1;
     Sent {
-        first: first,
-        step: step,
+        first,
+        step,
         count: room.min(offsets.count - before),
     }
 }
@@ -148,34 +148,44 @@ pub fn offset(win: Window, s: usize) -> f32
     (s as i64 - win.current.index as i64) as f32
 }
 
-// The mean of the offsets.
-#[tactic(auto, using(crate::specs::Summing::mean_is))]
-fn mean_offset(win: Window, sent: Sent) -> f32
-    requires { Inside 1024 sent × (win.current.index ≤ 1024) }
-    ensures { result ≡ mean (offsets_of win sent) }
-{
-    sum_of_offsets(win, sent) / sent.count as f32
+// A window, and the spectra of it in which a carrier's pilot is sent.
+#[derive(Clone, Copy)]
+struct Found {
+    win: Window,
+    sent: Sent,
+    ghost inside: { Inside 1024 sent },
+    ghost current: { win.current.index ≤ 1024 },
 }
 
-// The sum of the offsets.
-fn sum_of_offsets(win: Window, sent: Sent) -> f32
-    requires { Inside 1024 sent × (win.current.index ≤ 1024) }
-    ensures { result ≡ sum_at (offset_of win) sent }
-{
-    (0..sent.count).map(|i| offset(win, sent.spectrum(i))).sum()
-}
+impl Found {
+    // The mean of the offsets.
+    #[tactic(auto, using(crate::specs::Summing::mean_is))]
+    fn mean_offset(self) -> f32
+        ensures { result ≡ mean (offsets_of self.win self.sent) }
+    {
+        self.sum_of_offsets() / self.sent.count as f32
+    }
 
-// How far the offsets are spread about their mean.
-fn spread_about(win: Window, sent: Sent, mean: f32) -> f32
-    requires { Inside 1024 sent × (win.current.index ≤ 1024) }
-    ensures { result ≡ sum_at (λ s. squared mean (offset_of win s)) sent }
-{
-    (0..sent.count)
-        .map(|i| {
-            let x = offset(win, sent.spectrum(i)) - mean;
-            x * x
-        })
-        .sum()
+    // The sum of the offsets.
+    fn sum_of_offsets(self) -> f32
+        ensures { result ≡ sum_at (offset_of self.win) self.sent }
+    {
+        (0..self.sent.count)
+            .map(|i| offset(self.win, self.sent.spectrum(i)))
+            .sum()
+    }
+
+    // How far the offsets are spread about their mean.
+    fn spread_about(self, mean: f32) -> f32
+        ensures { result ≡ sum_at (λ s. squared mean (offset_of self.win s)) self.sent }
+    {
+        (0..self.sent.count)
+            .map(|i| {
+                let x = offset(self.win, self.sent.spectrum(i)) - mean;
+                x * x
+            })
+            .sum()
+    }
 }
 
 // The times of a carrier whose pilot is sent at the offsets.
@@ -185,32 +195,19 @@ fn times_at(win: Window, offsets: Offsets) -> Times
     ensures { TimesOf win offsets result }
 {
     let sent = sent_in(win, offsets);
-    let mean = mean_offset(win, sent);
-    let spread = spread_about(win, sent, mean);
+    let found = Found { win, sent };
+    let mean = found.mean_offset();
+    let spread = found.spread_about(mean);
     Times { sent, mean, spread }
 }
 
-// The times of the scattered pilots that were sent last `back` symbols ago, w on each side of the current
-// symbol.
-fn scattered_ago(win: Window, back: usize) -> Times
-    requires { Usable win × (back < 4) }
-    ensures { ScatteredAgo win back result }
-{
-    times_at(win, win.current.scattered_offsets(back))
-}
-
-// The times of the scattered pilots.
+// The times of the scattered pilots, w on each side of the current symbol.
 pub fn scattered_times(win: Window) -> Scattered
     requires { Usable win }
     ensures { ScatteredTimes win result }
 {
     Scattered {
-        ago: [
-            scattered_ago(win, 0),
-            scattered_ago(win, 1),
-            scattered_ago(win, 2),
-            scattered_ago(win, 3),
-        ],
+        ago: std::array::from_fn(|back| times_at(win, win.current.scattered_offsets(back))),
     }
 }
 

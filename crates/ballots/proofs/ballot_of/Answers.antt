@@ -15,7 +15,7 @@ pub invariant_of-spectrum : goal.invariant_of-spectrum
 invariant_of-spectrum c =
     let mode = c.args.layout.mode in
     let size : length c.args.signs.now ≡ total_carriers mode = ap length c.requires.signed ∙ signs_length mode in
-    record { as_many = omega (arith, c.requires.floats); few = omega (arith, (sized mode).band_high) }
+    record { spectrum = c.requires; as_many = omega (arith, c.requires.floats); few = omega (arith, (sized mode).band_high) }
 
 pub loop-phase-init : goal.loop-phase-init
 unfolding choice_of

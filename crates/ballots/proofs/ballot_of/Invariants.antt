@@ -8,7 +8,7 @@ use Rattle.ballots.proofs.ballot_of.Given as goal
 
 abbrev pub invariant-loop-phase : goal.invariant-loop-phase
 invariant-loop-phase l =
-    let mode = l.layout.mode in
-    let kinds = kind_codes l.layout.kinds in
+    let mode = l.fn.layout.mode in
+    let kinds = kind_codes l.fn.layout.kinds in
     Ahead (phase_metric mode kinds (pair_at l.y)) (choice_of mode kinds (pair_at l.y)) l.best l.metric l.phase
     × SomeTo (has_energy mode kinds (pair_at l.y)) l.heard l.phase

@@ -8,4 +8,4 @@ use Rattle.frame.specs.Inner.{pilot_byte}
 use Rattle.frame.proofs.write_pilots.Given as goal
 
 abbrev pub invariant-loop-p : goal.invariant-loop-p
-invariant-loop-p l = l.out ≡ up_to (pilot_byte l.kind l.phase) l.p ++ drop l.p l.initial.out
+invariant-loop-p l = l.out ≡ up_to (pilot_byte l.kind l.phase.number) l.p ++ drop l.p l.initial.out

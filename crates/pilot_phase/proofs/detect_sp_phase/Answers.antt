@@ -14,4 +14,4 @@ pub returns-then-not-are_whole : goal.returns-then-not-are_whole
 returns-then-not-are_whole c = refused_length _ _ c.in_ok-layout.ensures (sym c.are_whole.ensures ∙ c.if-not-are_whole.true)
 
 pub returns : goal.returns
-returns c = accepted _ _ c.in_ok-layout.ensures (sym c.are_whole.ensures ∙ c.if-not-are_whole.false) c.accepted.ensures
+returns c = accepted _ _ c.in_ok-layout.ensures (sym c.are_whole.ensures ∙ c.if-not-are_whole.false) c.answer.ensures

@@ -14,18 +14,18 @@ loop-place-init c = begin c.carriers_per_segment-c.ensures refl c.new.ensures re
 
 pub walk_segment-run-requires : goal.walk_segment-run-requires
 walk_segment-run-requires c =
-    walkable c.loop-place.invariant c.args.phase.in_cycle c.loop-place-test.true c.band_carrier-lowest.ensures c.requires
+    walkable c.loop-place.invariant c.args.phase.in_cycle c.loop-place-test.true c.band_carrier-lowest.ensures c.args.self.now.spectrum
 
 pub loop-place-preserved : goal.loop-place-preserved
 loop-place-preserved c =
     let h = c.loop-place-test.true in
-    let kinds = kind_codes c.args.layout.kinds in
+    let kinds = kind_codes c.args.self.now.layout.kinds in
     let known : kind_from (get_or kinds (segment_at c.loop-place.place) 0) ≡ c.kind.result =
     ap (λ (n : ℕ). kind_from (get_or kinds n 0)) (sym c.segment_at_position.ensures) ∙ sym c.kind.ensures in
     elim c.match-kind.branch [
       | in-Coherent w ↦
           rw w.run-is
-          (again_coherent c.loop-place.invariant c.args.phase.in_cycle h w.band_carrier-lowest.ensures c.requires.signed (known ∙ w.in-Coherent.is)
+          (again_coherent c.loop-place.invariant c.args.phase.in_cycle h w.band_carrier-lowest.ensures c.args.self.now.spectrum.signed (known ∙ w.in-Coherent.is)
           w.walk_segment-run.ensures)
       | in-Differential w ↦ rw w.run-is (again_differential c.loop-place.invariant h (known ∙ w.in-Differential.is) w.apart-run.ensures)
     ]

@@ -11,13 +11,13 @@ use Rattle.chanest.proofs.Capture.write_segment.Goals as goal
 pub write_point-requires : goal.write_point-requires
 write_point-requires c =
     let low = within c.args.mode _ _ _ c.carriers_per_segment.ensures c.requires.2 c.loop-i-test.true in
-    placed (again c.requires.0 _ c.loop-i.invariant.size) low (c.requires.1 _ _ c.back.ensures.1)
+    placed (again c.requires.0 _ c.loop-i.invariant.size) low (c.at-times.ensures.ago _ c.requires.1)
 
 pub loop-i-preserved : goal.loop-i-preserved
 loop-i-preserved c =
     let low = within c.args.mode _ _ _ c.carriers_per_segment.ensures c.requires.2 c.loop-i-test.true in
     together (omega arith) (omega arith) c.loop-i.invariant
-    (stored (again c.requires.0 _ c.loop-i.invariant.size) low (sent_ago _ _ c.requires.1 _ c.back.ensures.0 c.back.ensures.1 _) _ refl c.write_point.ensures)
+    (stored (again c.requires.0 _ c.loop-i.invariant.size) low (sent_ago _ _ c.requires.1 _ c.back.ensures.0 c.at-times.ensures) _ refl c.write_point.ensures)
 
 pub returns : goal.returns
 returns c =

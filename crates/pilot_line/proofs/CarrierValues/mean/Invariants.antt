@@ -7,4 +7,4 @@ use Rattle.pilot_line.proofs.Summing.{sum_of}
 use Rattle.pilot_line.proofs.CarrierValues.mean.Given as goal
 
 abbrev pub invariant-loop-i : goal.invariant-loop-i
-invariant-loop-i l = of32 l.sum ≡ sum_of (value_in l.self.win l.self.spectra.now l.self.k l.self.inverse) l.sent l.i
+invariant-loop-i l = of32 l.sum ≡ sum_of (value_in l.self.win l.self.spectra.now l.self.k l.self.inverse) l.self.times.sent l.i

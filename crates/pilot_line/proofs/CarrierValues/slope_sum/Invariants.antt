@@ -8,4 +8,4 @@ use Rattle.pilot_line.proofs.CarrierValues.slope_sum.Given as goal
 abbrev pub invariant-loop-i : goal.invariant-loop-i
 invariant-loop-i l =
     of32 l.slope
-    ≡ sum_of (leans l.self.win l.self.spectra.now l.self.k l.self.inverse l.times.mean (of32 l.middle)) l.times.sent l.i
+    ≡ sum_of (leans l.self.win l.self.spectra.now l.self.k l.self.inverse l.self.times.mean (of32 l.middle)) l.self.times.sent l.i

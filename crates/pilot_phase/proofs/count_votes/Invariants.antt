@@ -1,8 +1,0 @@
--- `pilot_phase::count_votes` meets its contract: the counts are those of the votes of the spectra passed, and of those that were heard.
--- Assumes nothing.
-use Rattle.params.specs.Params.{kind_codes}
-use Rattle.pilot_phase.proofs.Counting.{Counted}
-use Rattle.pilot_phase.proofs.count_votes.Given as goal
-
-abbrev pub invariant-loop-j : goal.invariant-loop-j
-invariant-loop-j l = Counted l.layout.mode (kind_codes l.layout.kinds) l.spectra l.all l.heard l.j
