@@ -162,6 +162,7 @@ fn spread_two(spectra: &[f32], at: usize, next: usize, bins: BinBlock, t: usize,
 {
     let one = &spectra[2 * at..];
     let two = &spectra[2 * next..];
+    // The place runs along: measured with a product in each turn, 512 spectra took 7 in 100 longer.
     let mut to = t;
     for i in 0..bins.width {
         let x = spectra::pair_at(one, i);
