@@ -88,10 +88,8 @@ fn band_role(layout: FrameLayout, phase: Phase, k: BandCarrier) -> CarrierRole
         return CarrierRole::EdgeCp;
     }
     let at = ofdm::carrier_place(mode, k);
-    let place = at.place;
-    let p = at.p;
-    let seg = ofdm::segment_at_position(place);
-    place_role(mode, seg, layout.kind(seg), phase, p)
+    let seg = ofdm::segment_at_position(at.place);
+    place_role(mode, seg, layout.kind(seg), phase, at.p)
 }
 
 // The role of carrier k in a mode, kinds and phase.
