@@ -145,6 +145,7 @@ pub fn refusal(len: usize, floats: usize, room: usize) -> Result<(), Refusal>
 
 // Neighbouring bins in the copy: `width` of them from bin `first` on, each of `count` pairs one behind
 // another, and `slot` pairs from one bin's first pair to the next bin's.
+// The copy is lent beside it: two functions write it and two read it, so one struct of both is no plainer.
 #[derive(Clone, Copy)]
 pub struct BinBlock {
     pub first: usize,
