@@ -17,13 +17,13 @@ use params::{Mode, Phase, Refusal};
 
 // Stores, from index `at` of `out` on, the carriers whose role byte lies from low to high, where
 // roles[i] is that of the i-th carrier from the first on. Hands back the index behind the last.
-// The bounds are two bytes: of a RangeInclusive the contract would also have to say that it is not used up.
+// Two bytes: a RangeInclusive in their place is no plainer, the contract has to say that it is not used up.
 fn collect(roles: &[u8], low: u8, high: u8, first: BandCarrier, out: &mut [u32], at: usize) -> usize
     requires { Room roles.now low high first.0 out.old at }
     ensures { Collected roles.now low high first.0 out.old at result out.new }
 {
     let lowest = first.0;
-    let mut n = at;
+    let mut n = at; // counted by hand, since it is handed back: an iterator over `out` in its place is no plainer
     for (i, role) in roles.iter().enumerate() {
         if frame::is_between(low, high, *role) {
             out[n] = (lowest + i) as u32;

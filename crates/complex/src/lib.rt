@@ -1,5 +1,6 @@
 // Complex numbers: pairs of floats by value, with num-complex's names and order of operations, each
-// rounded once to the format of its parts. Generic over the two floats; the norms are each float's own.
+// rounded once to the format of its parts. Generic over the two floats, but for the norms: that of an f32 pair
+// is worked out in f64 and narrowed, that of an f64 pair is not, so one generic function is no plainer.
 #![tactic(auto)]
 
 ghost use Rattle.std.specs.Prelude.{◌≡◌};

@@ -17,7 +17,7 @@ pub struct Window {
 const HALF: f64 = 0.5;
 
 // Writes the prefix sums of the products and halved energies of samples n apart: entry i has the real
-// part, the imaginary part and the energy of the first i, one behind another.
+// part, the imaginary part and the energy of the first i, one behind another: a C host lends one list of numbers.
 pub fn write_prefixes(samples: &[f32], n: usize, scratch: &mut [f64])
     requires { Writable n samples.now scratch.old }
     ensures { Holds n samples.now scratch.new }

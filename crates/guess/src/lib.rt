@@ -12,7 +12,8 @@ use correlation::Window;
 use params::Refusal;
 
 // A guess: codes of mode and guard, the offset of a guard's start, the metric, and both parts of the
-// summed correlation. The codes stay numbers, as they were lent: a C host is handed them back.
+// summed correlation.
+// Codes, since the C host lends codes and is handed them back: types here would only be made into codes again.
 #[derive(Clone, Copy)]
 pub struct ModeGuess {
     pub mode: u8,
@@ -97,7 +98,7 @@ fn try_mode(
     best
 }
 
-// Every mode.
+// Every mode. Modes and guards are two lists, since a C host lends two.
 #[tactic(auto, unfolding(crate::specs::Guess::guessed, crate::specs::Guess::scan))]
 fn search(samples: &[f32], modes: &[u8], guards: &[u8], scratch: &mut [f64]) -> Option<ModeGuess>
     requires { AllTriable samples.now guards.now scratch.old }

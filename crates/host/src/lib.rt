@@ -44,24 +44,15 @@ fn lend<T: Copy>(answer: Result<T, Refusal>, lent: &mut T) -> u8
 fn codes_of(kinds: [SegmentKind; 13]) -> [u8; 13]
     ensures { result ≡ kind_codes kinds }
 {
-    let mut codes = [0u8; 13];
-    for seg in 0..13 {
-        codes[seg] = u8::from(kinds[seg]);
-    }
-    codes
+    kinds.map(u8::from)
 }
 
 // The FFT bin of carrier k.
 pub fn sillurwy_carrier_bin(mode: u8, k: usize, bin: &mut usize) -> u8
     ensures { CarrierBin (mode_from mode) k bin.old result bin.new }
 {
-    match ofdm::bin_lookup(mode, BandCarrier(k)) {
-        Ok(found) => {
-            *bin = found.0;
-            0
-        }
-        Err(refusal) => u8::from(refusal),
-    }
+    let found = ofdm::bin_lookup(mode, BandCarrier(k)).map(|at| at.0);
+    lend(found, bin)
 }
 
 // The role byte of each carrier of the band.
@@ -75,13 +66,8 @@ pub fn sillurwy_role_map(mode: u8, phase: u8, kinds: &[u8], out: &mut [u8]) -> u
 pub fn sillurwy_carrier_role(mode: u8, phase: u8, kinds: &[u8], k: usize, role: &mut u8) -> u8
     ensures { RoleLent (role_answer (mode_from mode) phase kinds.now k) role.old result role.new }
 {
-    match carrier_role::carrier_role(mode, phase, kinds, BandCarrier(k)) {
-        Ok(found) => {
-            *role = u8::from(found);
-            0
-        }
-        Err(refusal) => u8::from(refusal),
-    }
+    let found = carrier_role::carrier_role(mode, phase, kinds, BandCarrier(k)).map(u8::from);
+    lend(found, role)
 }
 
 // The pilot sign of each carrier of the band.
@@ -217,9 +203,8 @@ pub fn sillurwy_detect_kinds(
 {
     match segment_kinds::detect_kinds(mode, spectra, ratios) {
         Ok(found) => {
-            let codes = codes_of(found.kinds);
-            let found_scores = found.scores;
-            *kinds = codes;
+            *kinds = codes_of(found.kinds);
+            let found_scores = found.scores; // tried without: the prover asks a variable for an array of a struct
             *scores = found_scores;
             0
         }
@@ -245,7 +230,7 @@ pub fn sillurwy_detect_sp_phase(
 {
     match pilot_phase::detect_sp_phase(mode, kinds, spectra) {
         Ok(answer) => {
-            let votes = answer.counts;
+            let votes = answer.counts; // tried without: the prover asks a variable for an array of a struct
             *counts = votes;
             *lead = answer.lead;
             match answer.phase {

@@ -1,5 +1,5 @@
 // What IEEE 754 arithmetic needs beyond Rattle's operators: an f64 narrowed to the nearest f32, for
-// every bit pattern, and named constants. specs/ has the laws of floats that signal processing leans
+// every bit pattern, and the zero that sums start at. specs/ has the laws of floats that signal processing leans
 // on: signs and zeros, order, and gain by a power of two. The square root is `root`'s.
 #![tactic(auto)]
 
@@ -10,9 +10,6 @@ ghost use Rattle.ieee.specs.Inner.{Narrowed};
 
 // Where `sum::<f32>()` starts.
 pub const NEGATIVE_ZERO: f32 = -0.0;
-
-// Rust's `f32::MIN`, the finite f32 farthest below zero.
-pub const F32_MIN: f32 = -3.4028235e38;
 
 // m / p to the nearest whole number, a tie to the even one, with no branch: twice the rest is above p, or
 // it is p and the quotient is odd.

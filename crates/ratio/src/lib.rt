@@ -145,6 +145,7 @@ pub fn refusal(len: usize, floats: usize, room: usize) -> Result<(), Refusal>
 
 // Neighbouring bins in the copy: `width` of them from bin `first` on, each of `count` pairs one behind
 // another, and `slot` pairs from one bin's first pair to the next bin's.
+// The copy is lent beside it: two functions write it and two read it, so one struct of both is no plainer.
 #[derive(Clone, Copy)]
 pub struct BinBlock {
     pub first: usize,
@@ -162,6 +163,7 @@ fn spread_two(spectra: &[f32], at: usize, next: usize, bins: BinBlock, t: usize,
 {
     let one = &spectra[2 * at..];
     let two = &spectra[2 * next..];
+    // The place runs along: measured with a product in each turn, 512 spectra took 7 in 100 longer.
     let mut to = t;
     for i in 0..bins.width {
         let x = spectra::pair_at(one, i);

@@ -16,7 +16,7 @@ pub fn are_modes(list: &[u8]) -> bool
     list.iter().all(|n| Mode::try_from(*n).is_ok())
 }
 
-// Whether each number of a list is a guard's denominator.
+// Whether each number of a list is a guard's denominator. A line each: one function for both takes a closure more.
 pub fn are_guards(list: &[u8]) -> bool
     ensures { result ≡ all_in is_guard list.now }
 {
@@ -25,6 +25,7 @@ pub fn are_guards(list: &[u8]) -> bool
 }
 
 // n of a mode's number, and 0 for a number that is no mode's.
+// 0, as in the definition: an Option is no plainer, every caller has tested its modes, and computes with n at once.
 pub fn fft_of(mode: u8) -> usize
     ensures { result ≡ fft_of mode }
 {
@@ -44,7 +45,8 @@ fn mode_needs(mode: u8, guards: &[u8], symbols: usize) -> usize
     most
 }
 
-// Samples that `guess::detect_mode` needs to try every mode and guard with at least `symbols` symbols.
+// Samples that `guess::detect_mode` needs to try every mode and guard with at least `symbols` symbols. Modes
+// and guards are two lists, since a C host lends two.
 //
 // Refused by 1 for a bad mode, 9 for a bad guard, 10 for more than 64 symbols. Empty lists give 0.
 #[tactic(auto, using(crate::proofs::Most::greatest_more))]

@@ -79,12 +79,12 @@ fn search(bins: &[u32], ratios: &[f32], bound: usize) -> Best
     let n = ratios.len();
     let mut best = Best {
         at: bound,
-        sum: ieee::F32_MIN,
+        sum: f32::MIN,
     };
     for j in 0..2 * bound + 1 {
         let sum = pattern_sum(bins, ratios, (j + (n - bound)) % n);
         if sum > best.sum {
-            best = Best { at: j, sum: sum };
+            best = Best { at: j, sum };
         }
     }
     best

@@ -29,7 +29,7 @@ fn passes(filter: Option<SegmentKind>, kind: SegmentKind) -> bool
 {
     match filter {
         None => true,
-        Some(only) => u8::from(only) == u8::from(kind),
+        Some(only) => only == kind,
     }
 }
 
