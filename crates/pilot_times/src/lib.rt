@@ -21,7 +21,7 @@ pub struct Current {
 }
 
 // `count` spectra of `len` carriers, and the current one among them.
-// No ghost field says that it is among them: `offset` asks only for an index of at most 1,024, and would ask more.
+// No ghost field puts it among them: `offset` asks for an index of at most 1,024 alone, and would ask more.
 #[derive(Clone, Copy)]
 pub struct Window {
     pub len: usize,
