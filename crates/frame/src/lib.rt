@@ -156,6 +156,7 @@ pub struct FrameLayout {
 }
 
 // Kinds from outside: thirteen codes, each 0 or 1.
+// One loop with `question::read_kinds` is no plainer: three lines here, where a closure's contract would tell what each call gives.
 fn read_kinds(kinds: &[u8]) -> Result<[SegmentKind; 13], Refusal>
     ensures { KindsTold kinds.now result }
 {

@@ -39,6 +39,7 @@ fn kind_of(letter: u8) -> Result<SegmentKind, Refusal>
 }
 
 // The kinds that thirteen letters stand for.
+// One loop with `frame::read_kinds` is no plainer: three lines here, where a closure's contract would tell what each call gives.
 fn read_kinds(letters: &[u8]) -> Result<[SegmentKind; 13], Refusal>
     requires { length letters.now ≡ 13 }
     ensures { LettersTold letters.now result }

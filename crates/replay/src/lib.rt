@@ -1,6 +1,6 @@
 // What the replay programs share: they read stored answers from standard input, part by part,
-// compare each entry with what the port answers, and count how many were compared and how many
-// differ.
+// compare each entry with what the proved operations answer, and count how many were compared and how
+// many differ.
 #![tactic(auto)]
 
 ghost use Rattle.std.specs.Prelude.{◌+◌, ◌-◌, ◌*◌, ◌<◌, ◌≤◌, ◌≡◌, ℕ, length, get_or, map, IfOk};
@@ -40,10 +40,9 @@ impl Size {
             Size::Eight => 8,
         }
     }
-}
 
-impl From<u8> for Size {
-    fn from(bytes: u8) -> Size {
+    // As the head of a stored call tells it: eight bytes where it is neither one nor four.
+    pub fn told(bytes: u8) -> Size {
         match bytes {
             1 => Size::One,
             4 => Size::Four,
@@ -148,8 +147,8 @@ pub fn number_at(bytes: &[u8], at: usize) -> u16
     u16::from_le_bytes([bytes[at], bytes[at + 1]])
 }
 
-// The numbers of four and of eight bytes. From those of two, as they are defined: `from_le_bytes` would
-// name every index.
+// The numbers of four and of eight bytes.
+// From those of two, as defined: `from_le_bytes` is no plainer, `first_chunk` hands it an Option that is never None.
 fn word_at(bytes: &[u8], at: usize) -> u32
     requires { at + 4 ≤ length bytes.now }
     ensures { result ≡ word_at bytes.now at }
@@ -179,6 +178,7 @@ fn number_of(bytes: &[u8], size: Size, place: usize) -> u64
 // What a stored answer owes of something that was lent: entries of so many bytes, of which the first
 // ones are written; how many of those are stored, since of entries that are all alike one is; and what
 // every entry was before the call, which all others must still be.
+// `stored` beside it is the whole room: the part that was read is no plainer, it needs a bound for each size of a number.
 #[derive(Clone, Copy)]
 struct Owed {
     size: Size,
@@ -208,7 +208,7 @@ impl Owed {
     }
 }
 
-// Compares every entry that the port was lent with what it must be.
+// Compares every entry that an operation was lent with what it must be.
 fn compare<T: Entry>(got: &[T], stored: &[u8], owed: Owed, tally: Tally) -> Tally
     requires { Holds stored.now owed }
     ensures { Compared (λ i. get_or (map T.bits_of got.now) i 0) stored.now owed (length got.now) tally result }

@@ -28,7 +28,7 @@ pub fn check_record(answers: &mut Answers, head: &[u8; HEAD]) -> Result<(), Cut>
     let more_bytes = answers.read_part(&mut more_byte_room, size_at(head, 16))?;
     let mut float_room = [0.0f32; 22468];
     let floats = float_room.get_mut(..size_at(head, 18)).ok_or(Cut)?;
-    answers.read_floats(floats, Size::from(head[20]))?;
+    answers.read_floats(floats, Size::told(head[20]))?;
     let (a, b) = answers.read_longs(usize::from(head[21]))?;
     let lists = Lists {
         bytes,

@@ -1,5 +1,5 @@
 // Replays the stored tables of the standard: compares every entry of the carrier tables, every first
-// state of the sign register and every entry of the randomizing tables with what the port has. Input
+// state of the sign register and every entry of the randomizing tables with what the crates have. Input
 // that ends early counts as a difference and ends the run; so does a row of more than 20 entries.
 #![tactic(auto)]
 
