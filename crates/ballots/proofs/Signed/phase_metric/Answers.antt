@@ -25,8 +25,8 @@ loop-place-preserved c =
     elim c.match-kind.branch [
       | in-Coherent w ↦
           rw w.run-is
-          (again_coherent c.loop-place.invariant c.args.phase.in_cycle h w.band_carrier-lowest.ensures c.args.self.now.spectrum.signed (known ∙ w.in-Coherent.is)
-          w.walk_segment-run.ensures)
+          (again_coherent c.loop-place.invariant c.args.phase.in_cycle h w.band_carrier-lowest.ensures c.args.self.now.spectrum.signed
+          (known ∙ w.in-Coherent.is) w.walk_segment-run.ensures)
       | in-Differential w ↦ rw w.run-is (again_differential c.loop-place.invariant h (known ∙ w.in-Differential.is) w.apart-run.ensures)
     ]
 
