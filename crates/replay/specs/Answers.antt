@@ -1,6 +1,7 @@
 -- What a stored answer says: its numbers, and what an entry that was lent must be after the call.
 -- Definitions only.
-use Rattle.std.specs.Prelude.{ℕ, ◌+◌, ◌*◌, ◌≤◌, cond, List, eqb, ltb, Float, length, get_or}
+use Rattle.std.specs.Prelude.{ℕ, ◌+◌, ◌*◌, ◌≤◌, ◌≡◌, cond, List, eqb, ltb, Float, length, get_or, Result, Ok, Err, OnOk}
+use Rattle.replay.specs.declared.Cut.{Cut}
 use Rattle.std.specs.Float.{Format, binary32, binary64}
 use Rattle.std.specs.Float.Ieee.{is_nan, to_bits}
 use Rattle.replay.specs.declared.Owed.{Owed}
@@ -18,6 +19,15 @@ word_at bytes at = number_at bytes (at + 2) * 65536 + number_at bytes at
 
 abbrev pub long_at : List ℕ → ℕ → ℕ
 long_at bytes at = word_at bytes (at + 4) * 4294967296 + word_at bytes at
+
+-- how many bytes a stored number has; eight where a head tells neither one nor four
+abbrev pub size_bytes : Size → ℕ
+size_bytes One = 1
+size_bytes Four = 4
+size_bytes Eight = 8
+
+abbrev pub size_told : ℕ → Size
+size_told bytes = cond (eqb bytes 1) One (cond (eqb bytes 4) Four Eight)
 
 -- the number at a place of numbers that have so many bytes each
 abbrev pub number_of : List ℕ → Size → ℕ → ℕ
@@ -51,3 +61,32 @@ pub record Holds (stored : List ℕ) (owed : Owed) : Type 0 where
 -- r is t with n entries more, each compared with what it must be
 abbrev pub Compared : (ℕ → ℕ) → List ℕ → Owed → ℕ → Tally → Tally → Type 0
 Compared got stored owed n t r = Counted t n (unlike (λ i. eqb (got i) (owed_at stored owed i)) n) r
+
+-- what a check leaves of a count: every entry is compared with what some stored answer owes that writes no
+-- more of them than there are; where the input is cut, what there was
+pub record Found (got : ℕ → ℕ) (n : ℕ) (t r : Tally) : Type 0 where
+  pub stored : List ℕ
+  pub owed : Owed
+  pub few : owed.written ≤ n
+  pub compared : Compared got stored owed n t r
+
+abbrev pub Checked : (ℕ → ℕ) → ℕ → Tally → Result (Unit {0}) Cut → Tally → Type 0
+Checked got n t (Ok x) r = Found got n t r
+Checked got n t (Err cut) r = r ≡ t
+
+-- what a call leaves of a count whose stored answer has n entries: all of them are compared, or where the
+-- input is cut the first ones
+pub record Replayed (n : ℕ) (t : Tally) (read : Result (Unit {0}) Cut) (r : Tally) : Type 0 where
+  pub compared : ℕ
+  pub differ : ℕ
+  pub few : compared ≤ n
+  pub each : differ ≤ compared
+  pub whole : OnOk read (compared ≡ n)
+  pub counted : Counted t compared differ r
+
+-- the same of a function that refuses nothing: a code that is not 0 is a difference, and then its value is
+-- compared
+pub record ValueReplayed (code : ℕ) (value : ℕ) (t : Tally) (read : Result (Unit {0}) Cut) (r : Tally) : Type 0 where
+  pub told : Tally
+  pub expected : Counted t 0 (cond (eqb code 0) 0 1) told
+  pub checked : Checked (λ i. value) 1 told read r

@@ -3,9 +3,11 @@
 // many differ.
 #![tactic(auto)]
 
-ghost use Rattle.std.specs.Prelude.{◌+◌, ◌-◌, ◌*◌, ◌<◌, ◌≤◌, ◌≡◌, ℕ, length, get_or, map, IfOk};
+ghost use Rattle.std.specs.Prelude.{◌+◌, ◌-◌, ◌*◌, ◌<◌, ◌≤◌, ◌≡◌, ℕ, cond, is_ok, length, get_or, map, IfOk};
 ghost use Rattle.std.specs.Int.{w64, cast_unsigned};
-ghost use Rattle.replay.specs.Answers.{number_at, word_at, long_at, number_of, bits32, bits64, place_of, owed_at, Holds, Compared};
+ghost use Rattle.replay.specs.Answers.{number_at, word_at, long_at, size_bytes, size_told, number_of, bits32, bits64, place_of};
+ghost use Rattle.replay.specs.Answers.{owed_at, Holds, Compared, Checked};
+ghost use Rattle.tally.specs.Tally.{Counted};
 
 use std::io;
 use std::io::{Read, Stdin};
@@ -32,7 +34,7 @@ pub enum Size {
 
 impl Size {
     fn bytes(self) -> usize
-        ensures { result ≤ 8 }
+        ensures { result ≡ size_bytes self }
     {
         match self {
             Size::One => 1,
@@ -40,9 +42,13 @@ impl Size {
             Size::Eight => 8,
         }
     }
+}
 
-    // As the head of a stored call tells it: eight bytes where it is neither one nor four.
-    pub fn told(bytes: u8) -> Size {
+// As the head of a stored call tells it: eight bytes where it is neither one nor four.
+impl From<u8> for Size {
+    ghost from_gives = { λ bytes size. size ≡ size_told bytes };
+
+    fn from(bytes: u8) -> Size {
         match bytes {
             1 => Size::One,
             4 => Size::Four,
@@ -148,14 +154,14 @@ pub fn number_at(bytes: &[u8], at: usize) -> u16
 }
 
 // The numbers of four and of eight bytes.
-// From those of two, as defined: `from_le_bytes` is no plainer, `first_chunk` hands it an Option that is never None.
 fn word_at(bytes: &[u8], at: usize) -> u32
     requires { at + 4 ≤ length bytes.now }
     ensures { result ≡ word_at bytes.now at }
 {
-    u32::from(number_at(bytes, at + 2)) * 65536 + u32::from(number_at(bytes, at))
+    u32::from_le_bytes([bytes[at], bytes[at + 1], bytes[at + 2], bytes[at + 3]])
 }
 
+// Of two of four bytes: eight entries by their indices are no plainer.
 fn long_at(bytes: &[u8], at: usize) -> u64
     requires { at + 8 ≤ length bytes.now }
     ensures { result ≡ long_at bytes.now at }
@@ -178,7 +184,8 @@ fn number_of(bytes: &[u8], size: Size, place: usize) -> u64
 // What a stored answer owes of something that was lent: entries of so many bytes, of which the first
 // ones are written; how many of those are stored, since of entries that are all alike one is; and what
 // every entry was before the call, which all others must still be.
-// `stored` beside it is the whole room: the part that was read is no plainer, it needs a bound for each size of a number.
+// The stored numbers are read from the whole room that they lie in: the part of it that was read is no
+// plainer, since its length would be another for each size of a number.
 #[derive(Clone, Copy)]
 struct Owed {
     size: Size,
@@ -258,29 +265,38 @@ pub struct Answers {
 }
 
 impl Answers {
-    pub fn new(input: Stdin) -> Answers {
+    pub fn new(input: Stdin) -> Answers
+        ensures { (result.tally.compared ≡ 0) × (result.tally.differ ≡ 0) }
+    {
         Answers {
             input,
             tally: Tally::new(),
         }
     }
 
-    // The count, where the input was read on or was cut: that is one difference.
-    pub fn counted(self, read: Result<(), Cut>) -> Tally {
+    // The count in the end: an input that was cut is one difference more.
+    pub fn counted(self, read: Result<(), Cut>) -> Tally
+        ensures { Counted self.tally 0 (cond (is_ok read) 0 1) result }
+    {
         let mut tally = self.tally;
         tally.expect(read.is_ok());
         tally
     }
 
     // Reads the next n bytes to the start of room, where they find room.
-    pub fn read_part<'a>(&mut self, room: &'a mut [u8], n: usize) -> Result<&'a [u8], Cut> {
+    pub fn read_part<'a>(&mut self, room: &'a mut [u8], n: usize) -> Result<&'a [u8], Cut>
+        ensures kept { self.new.tally ≡ self.old.tally }
+        ensures part { IfOk result (λ part. length part.now ≡ n) }
+    {
         let part = room.get_mut(..n).ok_or(Cut)?;
         self.input.read_exact(part)?;
         Ok(part)
     }
 
     // Fills room where something may begin: whether there was anything at all.
-    pub fn read_head(&mut self, room: &mut [u8]) -> Result<bool, Cut> {
+    pub fn read_head(&mut self, room: &mut [u8]) -> Result<bool, Cut>
+        ensures { self.new.tally ≡ self.old.tally }
+    {
         match self.input.read(room) {
             Ok(0) | Err(_) => Ok(false),
             Ok(n) => {
@@ -290,14 +306,18 @@ impl Answers {
         }
     }
 
-    pub fn read_byte(&mut self) -> Result<u8, Cut> {
+    pub fn read_byte(&mut self) -> Result<u8, Cut>
+        ensures { self.new.tally ≡ self.old.tally }
+    {
         let mut room = [0u8; 1];
         self.input.read_exact(&mut room)?;
         Ok(room[0])
     }
 
     // Reads floats of so many bytes each, where they find room.
-    pub fn read_floats(&mut self, out: &mut [f32], size: Size) -> Result<(), Cut> {
+    pub fn read_floats(&mut self, out: &mut [f32], size: Size) -> Result<(), Cut>
+        ensures { self.new.tally ≡ self.old.tally }
+    {
         let mut room = [0u8; 89872];
         if 22468 < out.len() {
             return Err(Cut);
@@ -307,8 +327,11 @@ impl Answers {
         Ok(())
     }
 
-    // Reads n numbers of eight bytes, which are at most two; one that is not there is 0.
-    pub fn read_longs(&mut self, n: usize) -> Result<(u64, u64), Cut> {
+    // Reads n numbers of eight bytes, which are at most two. One that is not there is 0: no plainer as an
+    // Option, since a call that has no number is made with 0, so the caller would put it there.
+    pub fn read_longs(&mut self, n: usize) -> Result<(u64, u64), Cut>
+        ensures { self.new.tally ≡ self.old.tally }
+    {
         let mut room = [0u8; 16];
         if 2 < n {
             return Err(Cut);
@@ -319,7 +342,8 @@ impl Answers {
 
     // Reads what a stored answer owes of `len` entries, and the stored ones to the start of room.
     fn read_owed<T: Entry>(&mut self, room: &mut [u8], len: usize) -> Result<Owed, Cut>
-        ensures { IfOk result (λ owed. owed.kept ≤ 8192) }
+        ensures kept { self.new.tally ≡ self.old.tally }
+        ensures owed { IfOk result (λ owed. (owed.kept ≤ 8192) × (owed.written ≤ len)) }
     {
         let mut head = [0u8; 3];
         self.input.read_exact(&mut head)?;
@@ -338,15 +362,19 @@ impl Answers {
     }
 
     // Reads a stored answer of a list, and compares each entry with it.
-    pub fn check_list<T: Entry>(&mut self, got: &[T]) -> Result<(), Cut> {
+    pub fn check_list<T: Entry>(&mut self, got: &[T]) -> Result<(), Cut>
+        ensures { Checked (λ i. get_or (map T.bits_of got.now) i 0) (length got.now) self.old.tally result self.new.tally }
+    {
         let mut room = [0u8; 65536];
         let owed = self.read_owed::<T>(&mut room, got.len())?;
         self.tally = compare(got, &room, owed, self.tally);
         Ok(())
     }
 
-    // The same of a single number.
-    pub fn check<T: Entry>(&mut self, got: T) -> Result<(), Cut> {
+    // The same of a single number. By itself, since an array of one would ask more of `T`.
+    pub fn check<T: Entry>(&mut self, got: T) -> Result<(), Cut>
+        ensures { Checked (λ i. T.bits_of got) 1 self.old.tally result self.new.tally }
+    {
         let mut room = [0u8; 65536];
         let owed = self.read_owed::<T>(&mut room, 1)?;
         self.tally.entry(got.bits() == owed.entry(&room, 0));

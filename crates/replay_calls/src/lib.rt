@@ -1,9 +1,14 @@
 // Reads the rest of a stored record (oracle/README.md, "The stored answers", has the form) and hands it
-// to its operation: `replay_layout` and the others make the call and compare what comes of it. The
-// program that reads record after record stands apart: a new operation does not touch it.
+// to its operation: the module of its part makes the call and compares what comes of it. The program
+// that reads record after record stands apart: a new operation does not touch it.
 //
-// A new operation has its number in `replay_head`, a function in the crate of its part, and a line here.
+// A new operation has its number in `replay_head`, a function in the module of its part, and a line here.
 #![tactic(auto)]
+
+mod acquisition;
+mod floats;
+mod grid;
+mod layout;
 
 use replay::{Answers, Cut, Size};
 use replay_head::{Call, HEAD, Operation, size_at};
@@ -28,7 +33,7 @@ pub fn check_record(answers: &mut Answers, head: &[u8; HEAD]) -> Result<(), Cut>
     let more_bytes = answers.read_part(&mut more_byte_room, size_at(head, 16))?;
     let mut float_room = [0.0f32; 22468];
     let floats = float_room.get_mut(..size_at(head, 18)).ok_or(Cut)?;
-    answers.read_floats(floats, Size::told(head[20]))?;
+    answers.read_floats(floats, Size::from(head[20]))?;
     let (a, b) = answers.read_longs(usize::from(head[21]))?;
     let lists = Lists {
         bytes,
@@ -45,48 +50,32 @@ fn check_call(answers: &mut Answers, head: &[u8; HEAD], lists: Lists<'_>) -> Res
     let code = head[1];
     let call = Call::of(head).within_room();
     match Operation::try_from(head[0])? {
-        Operation::CarrierBin => replay_layout::carrier_bin(answers, call?),
-        Operation::RoleMap => replay_layout::role_map(answers, call?, lists.bytes),
-        Operation::SignMap => replay_layout::sign_map(answers, call?),
-        Operation::DataList => replay_layout::data_list(answers, call?, lists.bytes),
-        Operation::ContinualList => replay_layout::continual_list(answers, call?, lists.bytes),
+        Operation::CarrierBin => layout::carrier_bin(answers, call?),
+        Operation::RoleMap => layout::role_map(answers, call?, lists.bytes),
+        Operation::SignMap => layout::sign_map(answers, call?),
+        Operation::DataList => layout::data_list(answers, call?, lists.bytes),
+        Operation::ContinualList => layout::continual_list(answers, call?, lists.bytes),
         Operation::SamplesNeeded => {
-            replay_acquisition::samples_needed(answers, call?, lists.bytes, lists.more_bytes)
+            acquisition::samples_needed(answers, call?, lists.bytes, lists.more_bytes)
         }
         Operation::DetectMode => {
-            replay_acquisition::detect_mode(
-                answers,
-                call?,
-                lists.floats,
-                lists.bytes,
-                lists.more_bytes,
-            )
+            acquisition::detect_mode(answers, call?, lists.floats, lists.bytes, lists.more_bytes)
         }
-        Operation::IntegerCfo => replay_acquisition::integer_cfo(answers, call?, lists.floats),
-        Operation::DetectKinds => replay_acquisition::detect_kinds(answers, call?, lists.floats),
-        Operation::TmccSoft => replay_acquisition::tmcc_soft(
-            answers,
-            call?,
-            lists.bytes,
-            lists.floats,
-        ),
+        Operation::IntegerCfo => acquisition::integer_cfo(answers, call?, lists.floats),
+        Operation::DetectKinds => acquisition::detect_kinds(answers, call?, lists.floats),
+        Operation::TmccSoft => acquisition::tmcc_soft(answers, call?, lists.bytes, lists.floats),
         Operation::DetectSpPhase => {
-            replay_acquisition::detect_sp_phase(answers, call?, lists.bytes, lists.floats)
+            acquisition::detect_sp_phase(answers, call?, lists.bytes, lists.floats)
         }
-        Operation::EstimateGrid => replay_grid::estimate_grid(
-            answers,
-            call?,
-            lists.bytes,
-            lists.floats,
-        ),
-        Operation::Root => replay_floats::root(answers, code, lists.a),
-        Operation::Narrow => replay_floats::narrow(answers, code, lists.a),
-        Operation::Norm32 => replay_floats::norm32(answers, code, lists.floats),
-        Operation::Norm64 => replay_floats::norm64(answers, code, lists.a, lists.b),
-        Operation::FrameStart => replay_acquisition::frame_start(answers, call?, lists.floats),
-        Operation::BinRatio => replay_acquisition::bin_ratio(answers, call?, lists.floats),
-        Operation::CarrierRole => replay_layout::carrier_role(answers, call?, lists.bytes),
-        Operation::Angle => replay_floats::angle(answers, code, lists.a, lists.b),
-        Operation::CfoFrac => replay_floats::cfo_frac(answers, code, lists.a, lists.b),
+        Operation::EstimateGrid => grid::estimate_grid(answers, call?, lists.bytes, lists.floats),
+        Operation::Root => floats::root(answers, code, lists.a),
+        Operation::Narrow => floats::narrow(answers, code, lists.a),
+        Operation::Norm32 => floats::norm32(answers, code, lists.floats),
+        Operation::Norm64 => floats::norm64(answers, code, lists.a, lists.b),
+        Operation::FrameStart => acquisition::frame_start(answers, call?, lists.floats),
+        Operation::BinRatio => acquisition::bin_ratio(answers, call?, lists.floats),
+        Operation::CarrierRole => layout::carrier_role(answers, call?, lists.bytes),
+        Operation::Angle => floats::angle(answers, code, lists.a, lists.b),
+        Operation::CfoFrac => floats::cfo_frac(answers, code, lists.a, lists.b),
     }
 }

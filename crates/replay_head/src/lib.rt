@@ -2,7 +2,9 @@
 // asks for, and the operation's number. The parts of the replayer share this.
 #![tactic(auto)]
 
-ghost use Rattle.std.specs.Prelude.{◌<◌, ◌≤◌, ◌≡◌, length, IfOk};
+ghost use Rattle.std.specs.Prelude.{◌<◌, ◌≤◌, ◌≡◌, length, take, IfOk, OnErr};
+ghost use Rattle.replay.specs.Answers.{number_at};
+ghost use Rattle.replay_head.specs.Calls.{OperationTold, Asked, within_room};
 
 use replay::Cut;
 
@@ -43,6 +45,8 @@ pub const OPERATIONS: usize = 21;
 
 impl TryFrom<u8> for Operation {
     type Error = Cut;
+
+    ghost try_from_gives = { OperationTold };
 
     fn try_from(number: u8) -> Result<Operation, Cut> {
         match number {
@@ -90,7 +94,9 @@ pub struct Call {
 
 impl Call {
     // The call that a head asks for.
-    pub fn of(head: &[u8; HEAD]) -> Call {
+    pub fn of(head: &[u8; HEAD]) -> Call
+        ensures { Asked head.now result }
+    {
         Call {
             code: head[1],
             mode: head[2],
@@ -103,9 +109,10 @@ impl Call {
         }
     }
 
-    // The same, where there is room for what it lends.
+    // The same, where there is room for what it lends. Beside `lend`, since a call that is lent no list
+    // makes no sense either where its head tells more entries.
     pub fn within_room(self) -> Result<Call, Cut>
-        ensures { IfOk result (λ call. call.lent ≤ 32259) }
+        ensures { result ≡ within_room self }
     {
         if ROOM < self.lent {
             return Err(Cut);
@@ -115,7 +122,9 @@ impl Call {
 
     // The entries of a room that the call lends, if it has so many.
     pub fn lend<T>(self, room: &mut [T]) -> Result<&mut [T], Cut>
-        ensures { IfOk result (λ entries. length entries.now ≡ self.lent) }
+        ensures entries { IfOk result (λ entries. entries.now ≡ take self.lent room.old) }
+        ensures whole { IfOk result (λ entries. length entries.now ≡ self.lent) }
+        ensures cut { OnErr result (length room.old < self.lent) }
     {
         room.get_mut(..self.lent).ok_or(Cut)
     }
@@ -124,6 +133,7 @@ impl Call {
 // The number of two bytes that begins at an index.
 pub fn size_at(head: &[u8; HEAD], at: usize) -> usize
     requires { at < 20 }
+    ensures { result ≡ number_at head.now at }
 {
     usize::from(replay::number_at(head, at))
 }

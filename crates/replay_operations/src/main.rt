@@ -10,22 +10,14 @@ use std::{fmt, io};
 use tally::Tally;
 
 // The calls whose record was read to the end, and what was compared.
-#[derive(Clone, Copy)]
+#[derive(Clone, Copy, Default)]
 struct Count {
     calls: u64,
     tally: Tally,
 }
 
 impl Count {
-    const NONE: Count = Count {
-        calls: 0,
-        tally: Tally {
-            compared: 0,
-            differ: 0,
-        },
-    };
-
-    // What came of one record, of which this was read.
+    // A record of which this was read.
     fn of(answers: Answers, read: Result<(), Cut>) -> Count {
         Count {
             calls: u64::from(read.is_ok()),
@@ -62,31 +54,32 @@ struct Counts {
 }
 
 impl Counts {
-    fn add(&mut self, operation: u8, count: Count) {
+    fn add(&mut self, operation: Option<u8>, count: Count) {
         self.all = self.all.with(count);
-        if operation == 0 {
+        let Some(place) = operation.and_then(|number| usize::from(number).checked_sub(1)) else {
             return;
-        }
-        if let Some(it) = self.each.get_mut(usize::from(operation) - 1) {
+        };
+        if let Some(it) = self.each.get_mut(place) {
             *it = it.with(count);
         }
     }
 }
 
-// Reads the next record: whether there was one. Of a piece of a head the operation is not known.
+// Reads the next record: whether there was one. Where the input ends within a head, it is not known
+// which operation the record was of.
 fn next_record(input: Stdin, counts: &mut Counts) -> Result<bool, Cut> {
     let mut answers = Answers::new(input);
     let mut head = [0u8; HEAD];
     match answers.read_head(&mut head) {
         Ok(true) => {
             let read = replay_calls::check_record(&mut answers, &head);
-            counts.add(head[0], Count::of(answers, read));
+            counts.add(Some(head[0]), Count::of(answers, read));
             read?;
             Ok(true)
         }
         Ok(false) => Ok(false),
         Err(cut) => {
-            counts.add(0, Count::of(answers, Err(cut)));
+            counts.add(None, Count::of(answers, Err(cut)));
             Err(cut)
         }
     }
@@ -104,8 +97,8 @@ fn run(input: Stdin, counts: &mut Counts) -> Result<(), Cut> {
 
 fn main(rt: HostRuntime) -> io::Result<()> {
     let mut counts = Counts {
-        all: Count::NONE,
-        each: [Count::NONE; OPERATIONS],
+        all: Count::default(),
+        each: [Count::default(); OPERATIONS],
     };
     // Where the input is cut, the difference is counted.
     let _ = run(rt.stdin(), &mut counts);

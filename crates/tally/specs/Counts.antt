@@ -40,3 +40,8 @@ unfolding unlike
 one_counted t s r same i b e h g =
     let m = counted_more t s r i 1 (unlike same i) (cond b 0 1) h g in
     rw (add-one i) (record { compared = rw (add-one i) at m.compared; differ = rw e at m.differ })
+
+-- a single entry
+pub single_counted : (t r : Tally) (same : ℕ → Bool) (b : Bool) → b ≡ same 0 → Counted t 1 (cond b 0 1) r → Counted t 1 (unlike same 1) r
+unfolding unlike
+single_counted t r same b e h = record { compared = h.compared; differ = let d = rw e at h.differ in omega (arith, d) }

@@ -7,7 +7,7 @@ ghost use Rattle.tally.specs.Tally.{capped, Counted};
 use std::fmt;
 
 // How many entries were compared, and how many differences there are.
-#[derive(Clone, Copy, Debug, PartialEq, Eq)]
+#[derive(Clone, Copy, Debug, Default, PartialEq, Eq)]
 pub struct Tally {
     pub compared: u64,
     pub differ: u64,
@@ -27,27 +27,24 @@ impl Tally {
     pub fn entry(&mut self, same: bool)
         ensures { Counted self.old 1 (cond same 0 1) self.new }
     {
-        *self = self.with(Tally {
-            compared: 1,
-            differ: u64::from(!same),
-        });
+        self.count(1, same);
     }
 
     // A difference, unless `good`, that belongs to no entry.
     pub fn expect(&mut self, good: bool)
         ensures { Counted self.old 0 (cond good 0 1) self.new }
     {
-        *self = self.with(Tally {
-            compared: 0,
-            differ: u64::from(!good),
-        });
+        self.count(0, good);
     }
 
-    // The input was cut here: one difference.
-    pub fn ended(&mut self)
-        ensures { Counted self.old 0 1 self.new }
+    // So many entries more, and a difference unless `good`.
+    fn count(&mut self, entries: u64, good: bool)
+        ensures { Counted self.old entries (cond good 0 1) self.new }
     {
-        self.expect(false);
+        *self = self.with(Tally {
+            compared: entries,
+            differ: u64::from(!good),
+        });
     }
 
     // Both counts together.

@@ -1,11 +1,9 @@
 // The stored calls of acquisition, made and compared: what the C library's function returns, and every
-// entry that was lent to be written. A new operation has a function here and a line in `replay_calls`.
-#![tactic(auto)]
-
+// entry that was lent to be written. A new operation has a function here and a line in `check_call`.
 use replay::{Answers, Cut, Entry};
 use replay_head::{Call, ROOM};
 
-pub fn samples_needed(
+pub(crate) fn samples_needed(
     answers: &mut Answers,
     call: Call,
     modes: &[u8],
@@ -18,7 +16,7 @@ pub fn samples_needed(
 }
 
 // The scratch is handed back cleared.
-pub fn detect_mode(
+pub(crate) fn detect_mode(
     answers: &mut Answers,
     call: Call,
     samples: &[f32],
@@ -58,7 +56,7 @@ pub fn detect_mode(
     answers.check(im)
 }
 
-pub fn integer_cfo(answers: &mut Answers, call: Call, spectra: &[f32]) -> Result<(), Cut> {
+pub(crate) fn integer_cfo(answers: &mut Answers, call: Call, spectra: &[f32]) -> Result<(), Cut> {
     let mut room = [f32::HELD; ROOM];
     let ratios = call.lend(&mut room)?;
     let mut shift = i64::HELD;
@@ -77,7 +75,7 @@ pub fn integer_cfo(answers: &mut Answers, call: Call, spectra: &[f32]) -> Result
     answers.check(score)
 }
 
-pub fn detect_kinds(answers: &mut Answers, call: Call, spectra: &[f32]) -> Result<(), Cut> {
+pub(crate) fn detect_kinds(answers: &mut Answers, call: Call, spectra: &[f32]) -> Result<(), Cut> {
     let mut room = [f32::HELD; ROOM];
     let ratios = call.lend(&mut room)?;
     let mut kinds = [u8::HELD; 13];
@@ -89,7 +87,7 @@ pub fn detect_kinds(answers: &mut Answers, call: Call, spectra: &[f32]) -> Resul
     answers.check_list(&scores)
 }
 
-pub fn tmcc_soft(
+pub(crate) fn tmcc_soft(
     answers: &mut Answers,
     call: Call,
     kinds: &[u8],
@@ -101,7 +99,7 @@ pub fn tmcc_soft(
     answers.check(value)
 }
 
-pub fn detect_sp_phase(
+pub(crate) fn detect_sp_phase(
     answers: &mut Answers,
     call: Call,
     kinds: &[u8],
@@ -130,7 +128,7 @@ pub fn detect_sp_phase(
     answers.check(lead)
 }
 
-pub fn frame_start(answers: &mut Answers, call: Call, soft: &[f32]) -> Result<(), Cut> {
+pub(crate) fn frame_start(answers: &mut Answers, call: Call, soft: &[f32]) -> Result<(), Cut> {
     let mut found = u8::HELD;
     let mut start = usize::HELD;
     let mut word = u8::HELD;
@@ -141,7 +139,7 @@ pub fn frame_start(answers: &mut Answers, call: Call, soft: &[f32]) -> Result<()
     answers.check(word)
 }
 
-pub fn bin_ratio(answers: &mut Answers, call: Call, pairs: &[f32]) -> Result<(), Cut> {
+pub(crate) fn bin_ratio(answers: &mut Answers, call: Call, pairs: &[f32]) -> Result<(), Cut> {
     let mut ratio = f32::HELD;
     let code = host::sillurwy_bin_ratio(pairs, &mut ratio);
     answers.tally.entry(code == call.code);

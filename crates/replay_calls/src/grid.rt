@@ -1,11 +1,9 @@
 // The stored calls of the grid, made and compared: what the C library's function returns, and every
-// entry that was lent to be written. A new operation has a function here and a line in `replay_calls`.
-#![tactic(auto)]
-
+// entry that was lent to be written. A new operation has a function here and a line in `check_call`.
 use replay::{Answers, Cut, Entry};
 use replay_head::{Call, ROOM};
 
-pub fn estimate_grid(
+pub(crate) fn estimate_grid(
     answers: &mut Answers,
     call: Call,
     kinds: &[u8],

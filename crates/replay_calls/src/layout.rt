@@ -1,18 +1,16 @@
 // The stored calls of the layout, made and compared: what the C library's function returns, and every
-// entry that was lent to be written. A new operation has a function here and a line in `replay_calls`.
-#![tactic(auto)]
-
+// entry that was lent to be written. A new operation has a function here and a line in `check_call`.
 use replay::{Answers, Cut, Entry};
 use replay_head::{Call, ROOM};
 
-pub fn carrier_bin(answers: &mut Answers, call: Call) -> Result<(), Cut> {
+pub(crate) fn carrier_bin(answers: &mut Answers, call: Call) -> Result<(), Cut> {
     let mut bin = usize::HELD;
     let code = host::sillurwy_carrier_bin(call.mode, call.second, &mut bin);
     answers.tally.entry(code == call.code);
     answers.check(bin)
 }
 
-pub fn role_map(answers: &mut Answers, call: Call, kinds: &[u8]) -> Result<(), Cut> {
+pub(crate) fn role_map(answers: &mut Answers, call: Call, kinds: &[u8]) -> Result<(), Cut> {
     let mut room = [u8::HELD; ROOM];
     let out = call.lend(&mut room)?;
     let code = host::sillurwy_role_map(call.mode, call.choice, kinds, out);
@@ -20,7 +18,7 @@ pub fn role_map(answers: &mut Answers, call: Call, kinds: &[u8]) -> Result<(), C
     answers.check_list(out)
 }
 
-pub fn sign_map(answers: &mut Answers, call: Call) -> Result<(), Cut> {
+pub(crate) fn sign_map(answers: &mut Answers, call: Call) -> Result<(), Cut> {
     let mut room = [u8::HELD; ROOM];
     let out = call.lend(&mut room)?;
     let code = host::sillurwy_sign_map(call.mode, out);
@@ -28,7 +26,7 @@ pub fn sign_map(answers: &mut Answers, call: Call) -> Result<(), Cut> {
     answers.check_list(out)
 }
 
-pub fn data_list(answers: &mut Answers, call: Call, kinds: &[u8]) -> Result<(), Cut> {
+pub(crate) fn data_list(answers: &mut Answers, call: Call, kinds: &[u8]) -> Result<(), Cut> {
     let mut room = [u32::HELD; ROOM];
     let out = call.lend(&mut room)?;
     let code = host::sillurwy_data_list(call.mode, call.choice, kinds, out);
@@ -36,7 +34,7 @@ pub fn data_list(answers: &mut Answers, call: Call, kinds: &[u8]) -> Result<(), 
     answers.check_list(out)
 }
 
-pub fn continual_list(answers: &mut Answers, call: Call, kinds: &[u8]) -> Result<(), Cut> {
+pub(crate) fn continual_list(answers: &mut Answers, call: Call, kinds: &[u8]) -> Result<(), Cut> {
     let mut room = [u32::HELD; ROOM];
     let out = call.lend(&mut room)?;
     let mut count = usize::HELD;
@@ -46,7 +44,7 @@ pub fn continual_list(answers: &mut Answers, call: Call, kinds: &[u8]) -> Result
     answers.check(count)
 }
 
-pub fn carrier_role(answers: &mut Answers, call: Call, kinds: &[u8]) -> Result<(), Cut> {
+pub(crate) fn carrier_role(answers: &mut Answers, call: Call, kinds: &[u8]) -> Result<(), Cut> {
     let mut role = u8::HELD;
     let code = host::sillurwy_carrier_role(call.mode, call.choice, kinds, call.third, &mut role);
     answers.tally.entry(code == call.code);
