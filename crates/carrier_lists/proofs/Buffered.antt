@@ -1,4 +1,4 @@
--- What a buffer that holds a band's roles gives to the lists made from it.
+-- What a band's roles give to the lists made from them.
 -- Assumes nothing.
 use Rattle.std.proofs.Common.{Option, Some, None, Result, Err}
 use Prim.Native.Nat.{ℕ, ◌*◌, ◌<◌}
@@ -23,7 +23,7 @@ use Rattle.carrier_lists.specs.Continual.{continual_listed}
 use Rattle.carrier_lists.specs.Operations.{ContinualListed, continual_list_code, continual_list_answer, continual_list_leaves}
 use Rattle.frame.specs.Inner.{Accepted, RefusedLayout}
 use Rattle.frame.specs.declared.FrameLayout.{FrameLayout}
-use Rattle.carrier_lists.specs.Inner.{DataRoom, data_in, Continual, BandBuffer}
+use Rattle.carrier_lists.specs.Inner.{DataRoom, data_in, Continual}
 use Rattle.frame.specs.Answers.{by_refusal}
 
 module _ (mode : Mode) (phase : ℕ) (kinds : List ℕ) where
@@ -53,24 +53,18 @@ module _ (mode : Mode) (phase : ℕ) (kinds : List ℕ) where
       joined_same (data_in mode roles) (segment_data mode phase kinds) 13
       (λ seg h. ap (chosen is_data (first_carrier mode (place_of seg))) (segment_part seg h))
 
-  module _ (buffer : List ℕ) (b : BandBuffer mode roles buffer) (k : ℕ) (e : k ≡ total_carriers mode) where
-    pub buffer_front : take k buffer ≡ roles
-    buffer_front = rw e b.front
-
-    pub front_length : length (take k buffer) ≡ total_carriers mode
-    front_length = ap length buffer_front ∙ roles_length
-
-    pub data_room : (out : List ℕ) → phase < 4 → length out ≡ 13 * data_carriers_per_segment mode → DataRoom mode (take k buffer) out
+  module _ (band : List ℕ) (e : band ≡ roles) where
+    pub data_room : (out : List ℕ) → phase < 4 → length out ≡ 13 * data_carriers_per_segment mode → DataRoom mode band out
     data_room out h l =
         record {
-          band = front_length;
+          band = ap length e ∙ roles_length;
           fits =
-              ap (λ (z : List ℕ). length (joined (data_in mode z) (range 13))) buffer_front
+              ap (λ (z : List ℕ). length (joined (data_in mode z) (range 13))) e
               ∙ (ap length same_data ∙ (data_length mode phase kinds h ∙ sym l));
         }
 
-    pub data_stored : (out' : List ℕ) → out' ≡ joined (data_in mode (take k buffer)) (range 13) → out' ≡ data_list mode phase kinds
-    data_stored out' w = w ∙ (ap (λ (z : List ℕ). joined (data_in mode z) (range 13)) buffer_front ∙ same_data)
+    pub data_stored : (out' : List ℕ) → out' ≡ joined (data_in mode band) (range 13) → out' ≡ data_list mode phase kinds
+    data_stored out' w = w ∙ (ap (λ (z : List ℕ). joined (data_in mode z) (range 13)) e ∙ same_data)
 
 -- the continual list of a layout that was refused, or accepted
 module _ (kinds out : List ℕ) where

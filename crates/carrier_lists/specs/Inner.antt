@@ -42,8 +42,3 @@ pub record ContinualRoom (roles out : List ℕ) : Type 0 where
 pub record Continual (roles out : List ℕ) (r : Result ℕ Refusal) (out' : List ℕ) : Type 0 where
   pub answer : r ≡ cond (leb (length (continual_in roles)) (length out)) (Ok (length (continual_in roles))) (Err WrongLength)
   pub leaves : out' ≡ cond (leb (length (continual_in roles)) (length out)) (stored_first (continual_in roles) out) out
-
--- a buffer whose first k_total entries are the band's roles
-pub record BandBuffer (mode : Mode) (roles buffer : List ℕ) : Type 0 where
-  pub size : 5617 ≡ length buffer
-  pub front : take (total_carriers mode) buffer ≡ roles

@@ -9,7 +9,7 @@ ghost use Rattle.params.specs.Params.{mode_from, data_carriers_per_segment, code
 ghost use Rattle.frame.specs.Roles.{band_roles, wide, between};
 ghost use Rattle.carrier_lists.specs.CarrierLists.{data_list, continual_in, stored_first};
 ghost use Rattle.carrier_lists.specs.Operations.{DataList, ContinualListed};
-ghost use Rattle.carrier_lists.specs.Inner.{Room, Collected, DataRoom, data_in, ContinualRoom, Continual, BandBuffer};
+ghost use Rattle.carrier_lists.specs.Inner.{Room, Collected, DataRoom, data_in, ContinualRoom, Continual};
 
 use frame::{AC1, AC2, CP, DATA, FrameLayout, TMCC};
 use ofdm::{BandCarrier, Segment};
@@ -84,16 +84,15 @@ fn collect_continual(roles: &[u8], out: &mut [u32]) -> Result<usize, Refusal>
     Ok(n)
 }
 
-// Role bytes of the band, in the first k_total entries of a buffer with room for every mode: nothing is
+// Stores the role bytes of the band in a buffer with room for every mode, and lends them: nothing is
 // allocated.
-fn band(layout: FrameLayout, phase: Phase) -> [u8; 5617]
-    ensures { BandBuffer layout.mode (band_roles layout.mode phase.number (wide (kind_codes layout.kinds))) result }
+fn band(layout: FrameLayout, phase: Phase, buffer: &mut [u8; 5617]) -> &[u8]
+    ensures { result.now ≡ band_roles layout.mode phase.number (wide (kind_codes layout.kinds)) }
 {
-    let mode = layout.mode;
-    let k = mode.total_carriers();
-    let mut buffer = [0u8; 5617];
-    layout.roles(phase, &mut buffer[..k]);
-    buffer
+    let k = layout.mode.total_carriers();
+    let roles = &mut buffer[..k];
+    layout.roles(phase, roles);
+    roles
 }
 
 // Data carriers of a layout, in segment-number order.
@@ -101,20 +100,16 @@ pub fn data_carriers(layout: FrameLayout, phase: Phase, out: &mut [u32])
     requires { length out.old ≡ 13 * data_carriers_per_segment layout.mode }
     ensures { out.new ≡ data_list layout.mode phase.number (kind_codes layout.kinds) }
 {
-    let mode = layout.mode;
-    let k = mode.total_carriers();
-    let roles = band(layout, phase);
-    collect_data(mode, &roles[..k], out);
+    let mut buffer = [0u8; 5617];
+    collect_data(layout.mode, band(layout, phase, &mut buffer), out);
 }
 
 // Continual carriers of a layout. None of them depends on the phase.
 pub fn continual_carriers(layout: FrameLayout, out: &mut [u32]) -> Result<usize, Refusal>
     ensures { Continual (band_roles layout.mode 0 (wide (kind_codes layout.kinds))) out.old result out.new }
 {
-    let mode = layout.mode;
-    let k = mode.total_carriers();
-    let roles = band(layout, Phase { number: 0 });
-    collect_continual(&roles[..k], out)
+    let mut buffer = [0u8; 5617];
+    collect_continual(band(layout, Phase { number: 0 }, &mut buffer), out)
 }
 
 // Data list: the data carriers of the band in segment-number order, ascending within a segment.

@@ -1,9 +1,10 @@
 -- The cases of what a read returned.
 -- Assumes nothing.
-use Rattle.std.specs.Prelude.{ℕ, ◌≤◌, zero, suc, Some, None, Result, Ok, Err, ◌≡◌, refl, IfOk, IfSome}
+use Rattle.std.specs.Prelude.{ℕ, ◌≤◌, zero, suc, List, Option, Some, None, Result, Ok, Err, ◌≡◌, refl, IfOk, IfSome}
 use Rattle.std.proofs.Common.{arith}
 use Rattle.std.specs.declared.io.Error.{Error}
-use Rattle.reading.specs.Read.{read_told, Moved}
+use Rattle.std.specs.Io.KnownBytes.{ReadConsumes}
+use Rattle.reading.specs.Read.{read_told, Moved, TurnConsumes}
 
 pub told_failed : (e : Error) → Err e ≡ read_told (Err e)
 unfolding read_told
@@ -30,3 +31,10 @@ unfolding read_told
 turn_within (Err e) n m = tt
 turn_within (Ok zero) n m = tt
 turn_within (Ok (suc i)) n m = m
+
+pub turn_consumes : (got : Result ℕ Error) (old new : Option (List ℕ)) (buffer : List ℕ) → ReadConsumes old new got buffer
+    → TurnConsumes old new (read_told got) buffer
+unfolding read_told
+turn_consumes (Err e) old new buffer h = h
+turn_consumes (Ok zero) old new buffer h = (h.0, h.1 refl)
+turn_consumes (Ok (suc i)) old new buffer h = h.0

@@ -3,7 +3,7 @@
 #![tactic(auto)]
 
 ghost use Rattle.std.specs.Prelude.{◌≡◌, ◌≤◌, length, IfOk, IfSome};
-ghost use Rattle.reading.specs.Read.{read_told};
+ghost use Rattle.reading.specs.Read.{read_told, TurnConsumes};
 
 use std::io;
 use std::io::Read;
@@ -22,8 +22,9 @@ pub fn told(got: io::Result<usize>) -> io::Result<Option<usize>>
 }
 
 // Reads once: so many bytes stand at the start of the buffer, or the input has ended.
-pub fn read(input: &mut impl Read, buffer: &mut [u8]) -> io::Result<Option<usize>>
-    ensures { IfOk result (λ found. IfSome found (λ n. n ≤ length buffer.new)) }
+pub fn read<R: Read>(input: &mut R, buffer: &mut [u8]) -> io::Result<Option<usize>>
+    ensures within { IfOk result (λ found. IfSome found (λ n. n ≤ length buffer.new)) }
+    ensures bytes { TurnConsumes (R.remaining input.old) (R.remaining input.new) result buffer.new }
 {
     told(input.read(buffer))
 }
