@@ -12,8 +12,8 @@
  *     array of the size written;
  *   - what is lent to be written overlaps nothing else that is lent in the same call.
  * Nothing else is asked of the caller. No function keeps a pointer, allocates, or has a state; they
- * may run on several threads at once. Shift and kinds take 66 KiB of stack, the data list 15 KiB,
- * every other function less than 8 KiB. */
+ * may run on several threads at once. Shift and kinds take 66 KiB of stack, every other function
+ * less than 8 KiB. */
 #ifndef SILLURWY_H
 #define SILLURWY_H
 
