@@ -116,18 +116,17 @@ fn detected(mode: Mode, ratios: &[f32]) -> DetectedKinds
     requires { length ratios.now ≡ total_carriers mode }
     ensures { AllDetected (detected_kinds mode ratios.now) (kind_scores mode ratios.now) result }
 {
-    let mut kinds = [SegmentKind::Coherent; 13];
-    let mut scores = [0.0f32; 13];
-    for seg in 0..13 {
-        let score = segment_score(mode, Segment { number: seg }, ratios);
-        scores[seg] = score;
-        kinds[seg] = kind_of(score);
-    }
+    let scores = std::array::from_fn(
+        |seg|
+            requires { Banded mode seg (length ratios.now) }
+        { segment_score(mode, Segment { number: seg }, ratios) },
+    );
+    let kinds = scores.map(kind_of);
     DetectedKinds { kinds, scores }
 }
 
 // The kinds of spectra of k_total carriers each, by their ratios, which are written to `ratios` and
-// stay there.
+// stay there. The mode is a number, as a C host lends it.
 //
 // Refused by 1 for a bad mode, 5 unless whole spectra, at most 1,024, 6 if none, 7 unless k_total
 // ratios.
