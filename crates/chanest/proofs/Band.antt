@@ -19,12 +19,10 @@ use Rattle.params.specs.Laws.{sized}
 use Rattle.complex.specs.Complex.{Pair}
 use Rattle.spectra.specs.Spectra.{pair_at}
 use Rattle.pilot_times.specs.declared.Current.{Current}
-use Rattle.pilot_times.specs.declared.Window.{Window}
 use Rattle.chanest.specs.Grid.{segment_points, grid_points, coherent_at, scattered_at, continual_at, value_at, grid_of}
 use Rattle.chanest.specs.Places.{pointed}
-use Rattle.chanest.specs.Inner.{Written, Writable}
+use Rattle.chanest.specs.Inner.{Written}
 use Rattle.chanest.proofs.Writing.{kept, together, exchanged, whole}
-use Rattle.chanest.proofs.Points.{again}
 
 -- whether the place below is coherent
 abbrev pub closes_at : List ℕ → ℕ → Bool
@@ -147,9 +145,6 @@ module _ (mode : Mode) (kinds : List ℕ) (xs : List Float) (current : Current) 
             (together (omega arith) (omega arith) w.lower
             (exchanged p (λ i u b. ap (λ (v : Pair). value_at mode kinds xs current v i) (w.lower.above i u))));
       }
-
-  pub still : {win : Window} {signs : List ℕ} → Writable mode win xs signs entry → Writable mode win xs signs now
-  still W = again W now w.lower.size
 
   pub low : from ≤ 13 * m
   low = rw at (mul-le-mul_right m (omega arith))

@@ -1,4 +1,4 @@
--- The window of an accepted call: its times can be looked for, and with the band's signs its grid can be written.
+-- The window of an accepted call: its times can be looked for, with the band's signs it is captured, and the lent grid is whole.
 -- Assumes nothing.
 use Prim.Native.Nat.{ℕ, ◌+◌, ◌*◌, ◌/◌, ◌%◌, ◌≤◌, ◌<◌}
 use mathlib.Core.List.{List}
@@ -18,8 +18,8 @@ use Rattle.pilot_times.specs.declared.Window.{Window}
 use Rattle.pilot_times.specs.Window.{at_least_one}
 use Rattle.pilot_times.specs.Inner.{Counted, Usable}
 use Rattle.pilot_line.specs.Inner.{Spanned}
-use Rattle.chanest.specs.Grid.{window_of, window_code}
-use Rattle.chanest.specs.Inner.{Writable}
+use Rattle.chanest.specs.Grid.{grid_points, window_of, window_code}
+use Rattle.chanest.specs.Inner.{Captured}
 use Rattle.chanest.specs.Codes.{Accepted, accepted}
 
 -- windows that are the same have as many carriers a spectrum
@@ -53,6 +53,8 @@ module _ (mode : Mode) (xs : List Float) (current : Current) (out : List Float) 
         narrow = omega (arith, (sized mode).band_high);
       })
 
-  pub writable : {signs : List ℕ} → signs ≡ band_signs mode → Writable mode win xs signs out
-  writable s =
-      record { phase = rw e a.cycle; window = rw e; usable = usable; spanned = spanned; signed = s; room = a.room }
+  pub captured : {signs : List ℕ} → signs ≡ band_signs mode → Captured mode win xs signs
+  captured s = record { phase = rw e a.cycle; window = rw e; usable = usable; spanned = spanned; signed = s }
+
+  pub room : length out ≡ 2 * grid_points mode
+  room = a.room

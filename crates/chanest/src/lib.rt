@@ -12,9 +12,9 @@ ghost use Rattle.params.specs.Params.{mode_from, code_of, kind_codes};
 ghost use Rattle.spectra.specs.Spectra.{with_pair};
 ghost use Rattle.pilot_times.specs.Window.{at_least_one};
 ghost use Rattle.pilot_times.specs.Inner.{ScatteredTimes};
-ghost use Rattle.chanest.specs.Grid.{segment_points, carrier_of, coherent_at, back_of, window_of, scattered_at, grid_of};
+ghost use Rattle.chanest.specs.Grid.{segment_points, grid_points, carrier_of, coherent_at, back_of, window_of, scattered_at, grid_of};
 ghost use Rattle.chanest.specs.Grid.{grid, window_code, GridEstimated};
-ghost use Rattle.chanest.specs.Inner.{Placed, point_by, Writable, Written};
+ghost use Rattle.chanest.specs.Inner.{Captured, Placed, point_by, Written};
 
 use frame::FrameLayout;
 use ofdm::{BandCarrier, BandPlace};
@@ -70,19 +70,22 @@ fn is_coherent(layout: FrameLayout, place: BandPlace) -> bool
     place.0 < 13 && layout.kind(ofdm::segment_at_position(place)) == SegmentKind::Coherent
 }
 
-// The spectra of a window, and the signs of the band's carriers.
+// The spectra of a window, and the signs of the carriers of its layout.
 #[derive(Clone, Copy)]
-pub struct Capture<'a> {
-    pub win: Window,
-    pub spectra: &'a [f32],
-    pub signs: &'a [u8],
+struct Capture<'a> {
+    layout: FrameLayout,
+    win: Window,
+    spectra: &'a [f32],
+    signs: &'a [u8],
+    ghost captured: { Captured layout.mode win spectra.now signs.now },
 }
 
-impl<'a> Capture<'a> {
+impl Capture<'_> {
     // Writes point i, whose carrier has its pilot at the times.
-    fn write_point(self, times: Times, i: GridPoint, out: &mut [f32])
-        requires { Placed self.win times self.spectra.now self.signs.now i.0 out.old }
-        ensures { out.new ≡ with_pair out.old i.0 (point_by self.entry.win times self.entry.spectra.now self.entry.signs.now i.0) }
+    #[tactic(auto, using(prbs::specs::Buffered::signs_length))]
+    fn write_point(&self, times: Times, i: GridPoint, out: &mut [f32])
+        requires { Placed self.now.layout.mode self.now.win times i.0 (length out.old) }
+        ensures { out.new ≡ with_pair out.old i.0 (point_by self.now.win times self.now.spectra.now self.now.signs.now i.0) }
     {
         let k = i.carrier();
         let v = pilot_line::estimate_at(self.win, times, self.spectra, k, self.signs[k.0]);
@@ -90,13 +93,13 @@ impl<'a> Capture<'a> {
     }
 
     // The points of a coherent segment, from its lowest on, each by its scattered pilots.
-    fn write_segment(self, mode: Mode, scattered: Scattered, from: GridPoint, out: &mut [f32])
-        requires { Writable mode self.win self.spectra.now self.signs.now out.old × ScatteredTimes self.win scattered
-            × (from.0 + segment_points mode ≤ 13 * segment_points mode) }
-        ensures { Written (scattered_at mode self.entry.spectra.now self.entry.win.current) from.0 (from.0 + segment_points mode)
-            out.old out.new }
+    fn write_segment(&self, scattered: Scattered, from: GridPoint, out: &mut [f32])
+        requires { length out.old ≡ 2 * grid_points self.now.layout.mode × ScatteredTimes self.now.win scattered
+            × (from.0 + segment_points self.now.layout.mode ≤ 13 * segment_points self.now.layout.mode) }
+        ensures { Written (scattered_at self.now.layout.mode self.now.spectra.now self.now.win.current)
+            from.0 (from.0 + segment_points self.now.layout.mode) out.old out.new }
     {
-        for i in from.0..from.0 + mode.carriers_per_segment() / 3 {
+        for i in from.0..from.0 + self.layout.mode.carriers_per_segment() / 3 {
             let point = GridPoint(i);
             let times = scattered.at(point.back(self.win.current));
             self.write_point(times, point, out);
@@ -105,20 +108,19 @@ impl<'a> Capture<'a> {
 
     // The points of the band, place after place from the lowest: those of a coherent segment, and the
     // continual pilot that closes it at the lowest point of the place above, of which the edge is the last.
-    fn write_points(self, layout: FrameLayout, out: &mut [f32])
-        requires { Writable layout.mode self.win self.spectra.now self.signs.now out.old }
-        ensures { out.new ≡ grid_of layout.mode (kind_codes layout.kinds) self.entry.spectra.now self.entry.win.current out.old }
+    fn write_points(&self, out: &mut [f32])
+        requires { length out.old ≡ 2 * grid_points self.now.layout.mode }
+        ensures { out.new ≡ grid_of self.now.layout.mode (kind_codes self.now.layout.kinds) self.now.spectra.now self.now.win.current out.old }
     {
         let scattered = pilot_times::scattered_times(self.win);
         let continual = pilot_times::continual_times(self.win);
-        let mode = layout.mode;
         let mut below = false; // whether the segment below is coherent
         for place in 0..14 {
             let here = BandPlace(place);
-            let lowest = lowest_point(mode, here);
-            let coherent = is_coherent(layout, here);
+            let lowest = lowest_point(self.layout.mode, here);
+            let coherent = is_coherent(self.layout, here);
             if coherent {
-                self.write_segment(mode, scattered, lowest, out);
+                self.write_segment(scattered, lowest, out);
             } else if below {
                 self.write_point(continual, lowest, out);
             }
@@ -162,16 +164,17 @@ fn write_grid(layout: FrameLayout, spectra: &[f32], current: Current, out: &mut 
     let mut buffer = [0u8; 5617];
     prbs::band_w(mode, &mut buffer[..k]);
     let capture = Capture {
+        layout,
         win,
         spectra,
         signs: &buffer[..k],
     };
-    capture.write_points(layout, out);
+    capture.write_points(out);
 }
 
 // The channel at the points of the grid, carriers 0, 3, 6 and so on, for the current one of a window of
 // spectra of k_total carriers. Points outside the coherent segments keep their contents, but for the
-// continual pilots that close them.
+// continual pilots that close them. Mode, kinds and phase are numbers, as a C host lends them.
 //
 // Refused by 1 for a bad mode, 2 unless there are thirteen kinds of 0 or 1, 3 for a bad phase, 5 unless
 // whole spectra, at most 1,024, 6 if none, 4 for an index outside, 10 for w above 64, 7 unless the grid

@@ -16,7 +16,8 @@ use pilot_times::{Times, Window};
 // 1.0 divided by the pilots' amplitude, as f32.
 const INVERSE_AMPLITUDE: f32 = 0.75;
 
-// 1.0 divided by the pilot of a sign.
+// 1.0 divided by the pilot of a sign. `pilots::pilot_value` tests the sign too: a function for both would be handed
+// the amplitude, and would be as long as the test.
 fn inverse_pilot(sign: u8) -> f32
     ensures { result ≡ inverse_of sign }
 {

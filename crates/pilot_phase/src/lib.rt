@@ -82,7 +82,7 @@ impl Recording<'_> {
             let ballot = ballots::ballot_of(self.layout, &self.spectra[from..from + w], signs);
             let vote = (ballot.choice as usize + 4 - j % 4) % 4;
             all[vote] += 1;
-            heard[vote] += ballot.heard as u32;
+            heard[vote] += u32::from(ballot.heard);
         }
         VoteCounts { all, heard }
     }
@@ -125,7 +125,8 @@ fn are_whole(mode: Mode, n: usize) -> bool
 }
 
 // The phase of symbol 0, with its share of the votes, the counts and the lead. The answer of an
-// accepted call in which no segment is coherent is that there are no scattered pilots.
+// accepted call in which no segment is coherent is that there are no scattered pilots. Mode and kinds are
+// numbers, as a C host lends them.
 //
 // Refused by 1 for a bad mode, 2 unless there are thirteen kinds of 0 or 1, 5 unless whole spectra of
 // k_total carriers, 0 to 1,024.

@@ -12,7 +12,8 @@ ghost use Rattle.pilot_times.specs.Inner.{Usable, ScatteredTimes, SentAgo, Conti
 
 // The symbol that a grid is asked for: the phase of its scattered pilots, its index among the spectra,
 // and how many scattered pilots of a carrier count on each side of it.
-// The phase is no `Phase`: a host may give any number, which `estimate_grid` refuses; the type would ask more.
+// The phase is no `Phase`: a host may give any number, which `estimate_grid` refuses, and no contract may ask more
+// of callers than it did.
 #[derive(Clone, Copy)]
 pub struct Current {
     pub phase: u8,
@@ -21,7 +22,8 @@ pub struct Current {
 }
 
 // `count` spectra of `len` carriers, and the current one among them.
-// No ghost field puts it among them: `offset` asks for an index of at most 1,024 alone, and would ask more.
+// No ghost field puts it among them: `offset` asks only for an index of at most 1,024, and no contract may ask more
+// of callers than it did.
 #[derive(Clone, Copy)]
 pub struct Window {
     pub len: usize,
@@ -39,7 +41,8 @@ pub struct Offsets {
 }
 
 // The spectra in which a carrier's pilot is sent: `count` of them from `first` on, `step` apart.
-// No ghost field bounds them: `spectrum` asks for 1,024, the estimate in `pilot_line` for its window.
+// No ghost field bounds them: `Sent::spectrum` asks that they lie below 1,024, `pilot_line::estimate_at` that they
+// lie in its window, and no contract may ask more of callers than it did.
 #[derive(Clone, Copy)]
 pub struct Sent {
     pub first: usize,

@@ -12,7 +12,8 @@ use complex::C32;
 const PILOT_AMPLITUDE: f32 = 1.3333334;
 
 // BPSK pilot value of W (Table 3-17): 1 is -4/3, 0 is +4/3. W stays a number: it is a digit of the
-// register, and a byte of the map that a C host lends.
+// register, and a byte of the map that a C host lends. `pilot_line::inverse_pilot` tests it too: a function for both
+// would be handed the amplitude, and would be as long as the test.
 pub fn pilot_value(w: u8) -> C32
     ensures { of32 result ≡ pilot_value w }
 {

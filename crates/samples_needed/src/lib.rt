@@ -24,8 +24,9 @@ pub fn are_guards(list: &[u8]) -> bool
         .all(|d| GuardInterval::try_from(*d as usize).is_ok())
 }
 
-// n of a mode's number, and 0 for a number that is no mode's.
-// 0, as in the definition: an Option is no plainer, every caller has tested its modes, and computes with n at once.
+// The FFT size of a mode's number, and 0 for a number that is no mode's.
+// 0, as in the definition: an Option is no plainer, since every caller has tested its modes, and computes with the
+// size at once.
 pub fn fft_of(mode: u8) -> usize
     ensures { result ≡ fft_of mode }
 {
@@ -38,21 +39,22 @@ fn mode_needs(mode: u8, guards: &[u8], symbols: usize) -> usize
     ensures { result ≡ greatest (map (needed_by symbols mode) guards.now) }
 {
     let n = fft_of(mode);
-    let mut most: usize = 0;
-    for guard in guards {
-        most = most.max((symbols + 1) * (n + n / *guard as usize) + n);
-    }
-    most
+    guards
+        .iter()
+        .map(|guard| (symbols + 1) * (n + n / *guard as usize) + n)
+        .max()
+        .unwrap_or(0)
 }
 
 // Samples that `guess::detect_mode` needs to try every mode and guard with at least `symbols` symbols. Modes
 // and guards are two lists, since a C host lends two.
 //
 // Refused by 1 for a bad mode, 9 for a bad guard, 10 for more than 64 symbols. Empty lists give 0.
-#[tactic(auto, using(crate::proofs::Most::greatest_more))]
 pub fn samples_needed(modes: &[u8], guards: &[u8], symbols: usize) -> Result<usize, Refusal>
     ensures { SamplesTold modes.now guards.now symbols result }
 {
+    // `guess` has the next two tests too: one function for both would need a code of its own in specs/, and each
+    // caller a law that puts its later refusals behind that code.
     if !are_modes(modes) {
         return Err(Refusal::BadMode);
     }
@@ -62,9 +64,10 @@ pub fn samples_needed(modes: &[u8], guards: &[u8], symbols: usize) -> Result<usi
     if symbols > 64 {
         return Err(Refusal::TooWide);
     }
-    let mut most: usize = 0;
-    for mode in modes {
-        most = most.max(mode_needs(*mode, guards, symbols));
-    }
+    let most = modes
+        .iter()
+        .map(|mode| mode_needs(*mode, guards, symbols))
+        .max()
+        .unwrap_or(0);
     Ok(most)
 }

@@ -1,4 +1,4 @@
--- What `add_places` keeps: the sum and the count so far, with what the places ahead will add, are the whole.
+-- What `mean_ratio` keeps: the sum and the count so far, with what the places ahead will add, are the whole; behind the last place they give the mean.
 -- Assumes nothing.
 use Prim.Native.Nat.{ℕ, ◌+◌, ◌≤◌, ◌<◌}
 use mathlib.Core.Bool.{Bool, true, false}
@@ -6,39 +6,42 @@ use mathlib.Core.List.{List, [], ◌∷◌, map}
 use mathlib.Core.Path.{◌≡◌, ap}
 use native.Mathlib.Numerals.{add-one}
 use native.Mathlib.Omega.{arith}
+use lib.IntN.{pos}
 use lib.ListN.{length, get_or, drop, drop_of_length-le}
 use lib.Seq.{drop-cons}
-use lib.Ieee.{Float, binary32, add}
+use lib.Ieee.{Float, binary32, add, div, of_int}
+use Rattle.ieee.specs.Constants.{minus_zero}
 use Rattle.ieee.specs.Sums.{total}
 use Rattle.lists.specs.Lists.{select}
+use Rattle.segment_kinds.specs.Inner.{mean_of}
 
-module _ (keep : ℕ → Bool) (places : List ℕ) (f : ℕ → Float) (s₀ : Float) (n₀ : ℕ) where
+module _ (keep : ℕ → Bool) (places : List ℕ) (f : ℕ → Float) where
   abbrev ahead : ℕ → List ℕ
   ahead i = select keep (drop i places)
 
   pub record Ahead (sum : Float) (count i : ℕ) : Type 0 where
-    pub few : count ≤ n₀ + i
-    pub summed : total binary32 sum (map f (ahead i)) ≡ total binary32 s₀ (map f (select keep places))
-    pub counted : count + length (ahead i) ≡ n₀ + length (select keep places)
+    pub few : count ≤ i
+    pub summed : total binary32 sum (map f (ahead i)) ≡ total binary32 minus_zero (map f (select keep places))
+    pub counted : count + length (ahead i) ≡ length (select keep places)
 
-  module _ (sum : Float) (count i : ℕ) (a : Ahead sum count i) where
-    pub skip : i < length places → keep (get_or places i 0) ≡ false → Ahead sum count (i + 1)
-    skip h e =
-        let same : ahead (i + 1) ≡ ahead i = rw (drop-cons places i 0 h, e, add-one) in
-        record { few = omega (arith, a.few); summed = rw same a.summed; counted = rw same a.counted }
+  module _ {sum : Float} {count i : ℕ} (a : Ahead sum count i) where
+    -- p is the next place
+    module _ {p : ℕ} (turn : (i < length places) × (p ≡ get_or places i p)) where
+      pub skip : keep p ≡ false → Ahead sum count (i + 1)
+      skip e =
+          let same : ahead (i + 1) ≡ ahead i = rw (drop-cons places i p turn.0, ← turn.1, e, add-one) in
+          record { few = omega (arith, a.few); summed = rw same a.summed; counted = rw same a.counted }
 
-    pub further : i < length places → keep (get_or places i 0) ≡ true → Ahead (add binary32 sum (f (get_or places i 0))) (count + 1) (i + 1)
-    unfolding total
-    further h e =
-        let one : ahead i ≡ get_or places i 0 ∷ ahead (i + 1) = rw (drop-cons places i 0 h, e, add-one) in
-        record { few = omega (arith, a.few); summed = rw one at a.summed; counted = omega (arith, a.counted, ap length one) }
+      pub further : keep p ≡ true → Ahead (add binary32 sum (f p)) (count + 1) (i + 1)
+      unfolding total
+      further e =
+          let one : ahead i ≡ p ∷ ahead (i + 1) = rw (drop-cons places i p turn.0, ← turn.1, e, add-one) in
+          record { few = omega (arith, a.few); summed = rw one at a.summed; counted = omega (arith, a.counted, ap length one) }
 
-    none : length places ≤ i → ahead i ≡ []
-    none h = ap (select keep) (drop_of_length-le places h)
-
-    pub sum_done : length places ≤ i → sum ≡ total binary32 s₀ (map f (select keep places))
-    unfolding total
-    sum_done h = rw (none h) at a.summed
-
-    pub count_done : length places ≤ i → count ≡ n₀ + length (select keep places)
-    count_done h = omega (arith, a.counted, ap length (none h))
+    pub mean : length places ≤ i → div binary32 sum (of_int binary32 (pos count)) ≡ mean_of f (select keep places)
+    unfolding total mean_of
+    mean h =
+        let none : ahead i ≡ [] = ap (select keep) (drop_of_length-le places h) in
+        let s : sum ≡ total binary32 minus_zero (map f (select keep places)) = rw none at a.summed in
+        let n : count ≡ length (select keep places) = omega (arith, a.counted, ap length none) in
+        rw (s, n)

@@ -1,5 +1,5 @@
 -- Laws that belong to no one function.
+pub mod Filled
 pub mod Adding
-pub mod Means
 pub mod Scores
 pub mod Answers

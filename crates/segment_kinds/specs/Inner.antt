@@ -9,7 +9,6 @@ use Rattle.lists.specs.Lists.{select, Inside}
 use Rattle.lists.specs.Tests.{memb}
 use Rattle.params.specs.declared.Mode.{Mode}
 use Rattle.params.specs.Params.{carriers_per_segment, total_carriers}
-use Rattle.segment_kinds.specs.declared.Mean.{Mean}
 
 -- in neither list of coherent places: `telling` of a segment, by its rows
 abbrev pub is_telling : List ℕ → List ℕ → ℕ → Bool
@@ -27,16 +26,6 @@ ratio_at mode place ratios p = get_or ratios (place * carriers_per_segment mode 
 pub record Banded (mode : Mode) (seg n : ℕ) : Type 0 where
   pub segment : seg < 13
   pub band : n ≡ total_carriers mode
-
--- places of a segment, after `count` others: place 0 and two rows of at most 20 at the most
-pub record Addable (count : ℕ) (mode : Mode) (places : List ℕ) : Type 0 where
-  pub few : count + length places ≤ 41
-  pub inside : Inside places (carriers_per_segment mode)
-
--- what f reads at the places added to a sum, and how many
-pub record Added (start : Mean) (f : ℕ → Float) (places : List ℕ) (r : Mean) : Type 0 where
-  pub sum : r.sum ≡ total binary32 start.sum (map f places)
-  pub count : r.count ≡ start.count + length places
 
 -- the mean of what f reads at the places
 unfoldable pub mean_of : (ℕ → Float) → List ℕ → Float

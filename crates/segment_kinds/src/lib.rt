@@ -6,7 +6,7 @@
 ghost use Rattle.std.specs.Prelude.{◌≡◌, ◌<◌, ◌∷◌, ◌++◌, length};
 ghost use Rattle.params.specs.Params.{mode_from, total_carriers, kind_code};
 ghost use Rattle.segment_kinds.specs.SegmentKinds.{kind_score, kind_of_score, kind_scores, detected_kinds, AllDetected, KindsDetected};
-ghost use Rattle.segment_kinds.specs.Inner.{is_telling, ratio_at, Addable, Added, kept, mean_of, Scorable, Banded};
+ghost use Rattle.segment_kinds.specs.Inner.{is_telling, ratio_at, kept, mean_of, Scorable, Banded};
 
 use ofdm::{BandPlace, Segment, SegmentPlace};
 use params::{Mode, Refusal, SegmentKind};
@@ -18,13 +18,6 @@ const HALF: f32 = 0.5;
 pub struct DetectedKinds {
     pub kinds: [SegmentKind; 13],
     pub scores: [f32; 13],
-}
-
-// Ratios added up, and how many.
-#[derive(Clone, Copy)]
-pub struct Mean {
-    pub sum: f32,
-    pub count: usize,
 }
 
 // A segment as its score sees it: the ratios of the band, the segment's place there, and the places that
@@ -48,38 +41,22 @@ impl SegmentRatios<'_> {
         !self.tmcc.contains(&p) && !self.ac1.contains(&p)
     }
 
-    // Adds the ratios at those of `places` that tell.
-    fn add_places(&self, start: Mean, places: &[u16]) -> Mean
-        requires { Addable start.count self.now.mode places.now }
-        ensures { Added start (ratio_at self.now.mode self.now.at.0 self.now.ratios.now)
-            (kept self.now.tmcc.now self.now.ac1.now places.now) result }
-    {
-        let mut sum = start.sum;
-        let mut count = start.count;
-        for p in places {
-            if self.is_telling(*p) {
-                let carrier = ofdm::band_carrier(self.mode, self.at, SegmentPlace(*p as usize));
-                sum = sum + self.ratios[carrier.0];
-                count += 1;
-            }
-        }
-        Mean { sum, count }
-    }
-
     // The mean ratio of the telling ones among place 0, AC2 and differential TMCC.
     fn mean_ratio(&self, ac2: &[u16], differential: &[u16]) -> f32
         requires { Scorable self.now.mode ac2.now differential.now }
         ensures { result ≡ mean_of (ratio_at self.now.mode self.now.at.0 self.now.ratios.now)
             (kept self.now.tmcc.now self.now.ac1.now (0 ∷ (ac2.now ++ differential.now))) }
     {
-        let start = Mean {
-            sum: ieee::NEGATIVE_ZERO,
-            count: 0,
-        };
-        let a = self.add_places(start, &[0]);
-        let b = self.add_places(a, ac2);
-        let m = self.add_places(b, differential);
-        m.sum / m.count as f32
+        let mut sum = ieee::NEGATIVE_ZERO;
+        let mut count: usize = 0;
+        for p in [0].iter().chain(ac2).chain(differential) {
+            if self.is_telling(*p) {
+                let carrier = ofdm::band_carrier(self.mode, self.at, SegmentPlace(*p as usize));
+                sum = sum + self.ratios[carrier.0];
+                count += 1;
+            }
+        }
+        sum / count as f32
     }
 }
 
@@ -116,18 +93,17 @@ fn detected(mode: Mode, ratios: &[f32]) -> DetectedKinds
     requires { length ratios.now ≡ total_carriers mode }
     ensures { AllDetected (detected_kinds mode ratios.now) (kind_scores mode ratios.now) result }
 {
-    let mut kinds = [SegmentKind::Coherent; 13];
-    let mut scores = [0.0f32; 13];
-    for seg in 0..13 {
-        let score = segment_score(mode, Segment { number: seg }, ratios);
-        scores[seg] = score;
-        kinds[seg] = kind_of(score);
-    }
+    let scores = std::array::from_fn(
+        |seg|
+            requires { Banded mode seg (length ratios.now) }
+        { segment_score(mode, Segment { number: seg }, ratios) },
+    );
+    let kinds = scores.map(kind_of);
     DetectedKinds { kinds, scores }
 }
 
 // The kinds of spectra of k_total carriers each, by their ratios, which are written to `ratios` and
-// stay there.
+// stay there. The mode is a number, as a C host lends it.
 //
 // Refused by 1 for a bad mode, 5 unless whole spectra, at most 1,024, 6 if none, 7 unless k_total
 // ratios.

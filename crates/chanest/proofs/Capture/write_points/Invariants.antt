@@ -6,4 +6,4 @@ use Rattle.chanest.proofs.Capture.write_points.Given as goal
 
 abbrev pub invariant-loop-place : goal.invariant-loop-place
 invariant-loop-place l =
-    WrittenTo l.layout.mode (kind_codes l.layout.kinds) l.self.spectra.now l.self.win.current l.initial.out l.place l.below l.out
+    WrittenTo l.self.layout.mode (kind_codes l.self.layout.kinds) l.self.spectra.now l.self.win.current l.initial.out l.place l.below l.out

@@ -18,12 +18,12 @@ overflow_add-all c =
 pub overflow_add-heard : goal.overflow_add-heard
 overflow_add-heard c =
     let floats = ap (λ (n : ℕ). 2 * n) c.total_carriers-w.ensures in
-    few_heard _ floats c.args.self.now.whole c.loop-j-test.true c.loop-j.invariant _ (omega arith) _
+    rw c.from.ensures (few_heard _ floats c.args.self.now.whole c.loop-j-test.true c.loop-j.invariant _ (omega arith) _)
 
 pub loop-j-preserved : goal.loop-j-preserved
 loop-j-preserved c =
     let floats = ap (λ (n : ℕ). 2 * n) c.total_carriers-w.ensures in
-    again _ floats c.args.self.now.whole c.loop-j-test.true c.loop-j.invariant c.ballot_of-ballot.ensures
+    rw c.from.ensures (again _ floats c.args.self.now.whole c.loop-j-test.true c.loop-j.invariant c.ballot_of-ballot.ensures)
 
 pub returns : goal.returns
 returns c =

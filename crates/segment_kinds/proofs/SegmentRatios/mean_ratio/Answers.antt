@@ -1,23 +1,32 @@
--- `segment_kinds::SegmentRatios::mean_ratio` meets its contract: the places of the three lists, added one list after another.
+-- `segment_kinds::SegmentRatios::mean_ratio` meets its contract: the sum and the count so far, with what the places ahead will add, are the whole.
 -- Assumes nothing.
-use mathlib.Core.Path.{refl}
-use Rattle.segment_kinds.proofs.Means.{tmcc_addable, whole_count, mean}
+use Rattle.std.proofs.Common.{◌∷◌, [], arith, ◌∙◌, sym}
+use Rattle.std.proofs.lemmas.Iterator.{YieldsList-from_slice}
+use Rattle.std.proofs.lemmas.Iterator.Consumers.{YieldsList-from_chain, YieldsList-turn, YieldsList-end}
+use Rattle.std.proofs.lemmas.List.{length_push}
+use Rattle.segment_kinds.proofs.Adding.{skip, further, mean}
 use Rattle.segment_kinds.proofs.SegmentRatios.mean_ratio.Goals as goal
 
-pub add_places-m-requires : goal.add_places-m-requires
-add_places-m-requires c =
-    let x = c.args.self.now in
-    tmcc_addable x.mode x.at.0 x.tmcc.now x.ac1.now c.args.ac2.now c.args.differential.now x.ratios.now c.requires _ refl
-    _ c.add_places-a.ensures _ c.add_places-b.ensures
+pub loop-p-preserved-then-is_telling : goal.loop-p-preserved-then-is_telling
+loop-p-preserved-then-is_telling c =
+    let turn = YieldsList-turn
+    (YieldsList-from_chain (YieldsList-from_chain (YieldsList-from_slice (0 ∷ []) cc) (YieldsList-from_slice c.args.ac2.now cc) (cc) (cc))
+    (YieldsList-from_slice c.args.differential.now cc) (cc) (cc))
+    c.loop-p.yielded _ c.loop-p.yielded_by _ _ c.in-Some.p c.in-Some.is c.next.ensures.steps in
+    rw (length_push, c.band_carrier-carrier.ensures) (further _ _ _ c.loop-p.invariant turn (sym c.is_telling.ensures ∙ c.if-is_telling.true))
 
-pub int_to_float-result : goal.int_to_float-result
-int_to_float-result c =
-    let x = c.args.self.now in
-    whole_count x.mode x.at.0 x.tmcc.now x.ac1.now c.args.ac2.now c.args.differential.now x.ratios.now c.requires _ refl
-    _ c.add_places-a.ensures _ c.add_places-b.ensures _ c.add_places-m.ensures
+pub loop-p-preserved : goal.loop-p-preserved
+loop-p-preserved c =
+    let turn = YieldsList-turn
+    (YieldsList-from_chain (YieldsList-from_chain (YieldsList-from_slice (0 ∷ []) cc) (YieldsList-from_slice c.args.ac2.now cc) (cc) (cc))
+    (YieldsList-from_slice c.args.differential.now cc) (cc) (cc))
+    c.loop-p.yielded _ c.loop-p.yielded_by _ _ c.in-Some.p c.in-Some.is c.next.ensures.steps in
+    rw length_push (skip _ _ _ c.loop-p.invariant turn (sym c.is_telling.ensures ∙ c.if-is_telling.false))
 
 pub returns : goal.returns
 returns c =
-    let x = c.args.self.now in
-    mean x.mode x.at.0 x.tmcc.now x.ac1.now c.args.ac2.now c.args.differential.now x.ratios.now c.requires _ refl
-    _ c.add_places-a.ensures _ c.add_places-b.ensures _ c.add_places-m.ensures refl
+    let over = YieldsList-end
+    (YieldsList-from_chain (YieldsList-from_chain (YieldsList-from_slice (0 ∷ []) cc) (YieldsList-from_slice c.args.ac2.now cc) (cc) (cc))
+    (YieldsList-from_slice c.args.differential.now cc) (cc) (cc))
+    c.loop-p.yielded _ c.loop-p.yielded_by _ _ c.in-None.is c.next.ensures.steps in
+    mean _ _ _ c.loop-p.invariant (omega (arith, over.1))
