@@ -1,6 +1,6 @@
 -- `frame::FrameLayout::of_codes` meets its contract: each kind is its code's.
 -- Assumes nothing.
-use Rattle.std.specs.Prelude.{◌≡◌, length, map}
+use Rattle.std.specs.Prelude.{◌≡◌, length, map, get_or}
 use Rattle.std.proofs.Common.{rules, sym, ◌∙◌}
 use Rattle.std.proofs.Math.ListN.{get_or-map}
 use Rattle.std.proofs.lemmas.List.{length-map, same_lists, get_or_default}
@@ -14,5 +14,6 @@ returns-clause-kinds c =
     let long : length c.map.result ≡ length c.args.codes = c.map.ensures.items.long ∙ sym sized in
     same_lists _ _ (long ∙ sym (length-map c.args.codes kind_from)) (λ i d h.
     let (p, q, called) = c.map.ensures.items.at i 0 Coherent (search (rules, c.map.ensures.items.long)) in
-    get_or_default c.map.result i d Coherent h ∙ called.met ∙ sym (get_or-map kind_from c.args.codes i 0)
+    let kind : get_or c.map.result i Coherent ≡ kind_from (get_or c.args.codes i 0) = search (rules, called.met) in
+    get_or_default c.map.result i d Coherent h ∙ kind ∙ sym (get_or-map kind_from c.args.codes i 0)
     ∙ get_or_default (map kind_from c.args.codes) i Coherent d (rw length-map (search (rules, long))))
