@@ -62,13 +62,13 @@ fn first_bits(soft: &[f32]) -> u16
 
 // A start at which one of the words stands. Each value is read once: the last sixteen bits are carried
 // along from start to start.
-#[tactic(auto, using(crate::proofs::Register::begin, crate::proofs::Register::word_found))]
+#[tactic(auto, using(crate::proofs::Register::begin, crate::proofs::Register::word_ends))]
 pub fn frame_start(soft: &[f32]) -> Option<FrameStart>
     ensures { StartTold soft.now result }
 {
     let mut bits = first_bits(soft);
-    for start in 0..soft.len().saturating_sub(15) {
-        bits = shifted(bits, soft[start + 15]);
+    for (start, value) in soft.get(15..)?.iter().enumerate() {
+        bits = shifted(bits, *value);
         if bits == W0 {
             return Some(FrameStart {
                 start,
