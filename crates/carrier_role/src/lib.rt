@@ -48,7 +48,8 @@ fn table_role(mode: Mode, seg: Segment, kind: SegmentKind, p: SegmentPlace) -> C
 }
 
 // The role of a place of a segment in a symbol with the given SP phase (of no effect in a
-// differential segment).
+// differential segment). Mode, segment and kind name the tables' rows, as they do in `tables`.
+#[tactic(auto, unfolding(frame::specs::Roles::place_role))]
 fn place_role(
     mode: Mode,
     seg: Segment,
@@ -59,20 +60,9 @@ fn place_role(
     ensures { result ≡ place_role mode (ofdm_segment seg.number kind) phase.number p.0 }
 {
     match kind {
-        SegmentKind::Coherent => {
-            if frame::is_sp(p, phase.number) {
-                CarrierRole::Sp
-            } else {
-                table_role(mode, seg, kind, p)
-            }
-        }
-        SegmentKind::Differential => {
-            if p.0 == 0 {
-                CarrierRole::Cp
-            } else {
-                table_role(mode, seg, kind, p)
-            }
-        }
+        SegmentKind::Coherent if frame::is_sp(p, phase.number) => CarrierRole::Sp,
+        SegmentKind::Differential if p.0 == 0 => CarrierRole::Cp,
+        _ => table_role(mode, seg, kind, p),
     }
 }
 
@@ -84,7 +74,7 @@ fn band_role(layout: FrameLayout, phase: Phase, k: BandCarrier) -> CarrierRole
 {
     let mode = layout.mode;
     let edge = ofdm::first_carrier(mode, BandPlace(13));
-    if k.0 == edge.0 {
+    if k == edge {
         return CarrierRole::EdgeCp;
     }
     let at = ofdm::carrier_place(mode, k);
@@ -92,7 +82,7 @@ fn band_role(layout: FrameLayout, phase: Phase, k: BandCarrier) -> CarrierRole
     place_role(mode, seg, layout.kind(seg), phase, at.p)
 }
 
-// The role of carrier k in a mode, kinds and phase.
+// The role of carrier k in a mode, kinds and phase, which are numbers, as a C host lends them.
 //
 // Refused as the role map is, with k in the place of the output: by 1 for a bad mode, 2 unless there
 // are thirteen kinds of 0 or 1, 3 for a bad phase, 4 for a carrier that the band does not have.

@@ -7,7 +7,7 @@
 // Kinds come in segment-number order. A refused call leaves the lent buffer untouched.
 #![tactic(auto)]
 
-ghost use Rattle.std.specs.Prelude.{◌≡◌, ◌<◌, length, get_or};
+ghost use Rattle.std.specs.Prelude.{◌≡◌, ◌<◌, length, get_or, map};
 ghost use Rattle.lists.specs.Lists.{up_to};
 ghost use Rattle.params.specs.Params.{mode_from, carriers_per_segment, total_carriers, kind_from, code_of, kind_codes};
 ghost use Rattle.params.specs.declared.SegmentKind.TheVariants.{Coherent};
@@ -19,7 +19,8 @@ ghost use Rattle.frame.specs.Operations.{RoleMap};
 use ofdm::{BandPlace, Segment, SegmentPlace};
 use params::{Mode, Phase, Refusal, SegmentKind};
 
-// Role bytes. They have names beside the roles, since `carrier_lists` asks for those from one to another.
+// The byte of each role. The bytes have names of their own, since `carrier_lists` asks for all roles whose
+// bytes lie between two of these.
 pub const DATA: u8 = 0;
 
 pub const SP: u8 = 1;
@@ -75,7 +76,7 @@ impl From<CarrierRole> for u8 {
 }
 
 // Whether a place of a coherent segment is a scattered pilot at a phase (Figure 3-30).
-// It takes any number, not a `Phase`, which would ask more of callers.
+// It takes any number, not a `Phase`: no contract may ask more than it did.
 pub fn is_sp(p: SegmentPlace, phase: u8) -> bool
     ensures { result ≡ is_sp Coherent phase p.0 }
 {
@@ -87,10 +88,7 @@ pub fn is_sp(p: SegmentPlace, phase: u8) -> bool
 pub fn is_between(low: u8, high: u8, b: u8) -> bool
     ensures { result ≡ between low high b }
 {
-    if b < low {
-        return false;
-    }
-    b <= high
+    low <= b && b <= high
 }
 
 // The role of a place so far as pilots decide it: the rest is data until the tables are marked.
@@ -108,8 +106,8 @@ fn pilot_role(kind: SegmentKind, phase: Phase, p: SegmentPlace) -> CarrierRole
 fn write_pilots(kind: SegmentKind, phase: Phase, out: &mut [u8])
     ensures { out.new ≡ up_to (pilot_byte kind phase.number) (length out.old) }
 {
-    for p in 0..out.len() {
-        out[p] = u8::from(pilot_role(kind, phase, SegmentPlace(p)));
+    for (p, role) in out.iter_mut().enumerate() {
+        *role = u8::from(pilot_role(kind, phase, SegmentPlace(p)));
     }
 }
 
@@ -125,7 +123,7 @@ fn mark(row: &[u16], role: CarrierRole, out: &mut [u8])
 }
 
 // Role bytes of a segment's carriers in a symbol with the given SP phase (of no effect in a differential
-// segment), lowest first.
+// segment), lowest first. Mode, segment and kind name the tables' rows, as they do in `tables`.
 pub fn segment_roles(mode: Mode, seg: Segment, kind: SegmentKind, phase: Phase, out: &mut [u8])
     requires { length out.old ≡ carriers_per_segment mode }
     ensures { out.new ≡ segment_roles mode phase.number (ofdm_segment seg.number kind) }
@@ -156,7 +154,8 @@ pub struct FrameLayout {
 }
 
 // Kinds from outside: thirteen codes, each 0 or 1.
-// One loop with `question::read_kinds` is no plainer: three lines here, where a closure's contract would tell what each call gives.
+// `question::read_kinds` has such a loop too. One function for both is no plainer: it would take a closure,
+// and its contract would say what the closure gives for each entry.
 fn read_kinds(kinds: &[u8]) -> Result<[SegmentKind; 13], Refusal>
     ensures { KindsTold kinds.now result }
 {
@@ -164,9 +163,8 @@ fn read_kinds(kinds: &[u8]) -> Result<[SegmentKind; 13], Refusal>
         return Err(Refusal::BadKinds);
     }
     let mut read = [SegmentKind::Coherent; 13];
-    for i in 0..13 {
-        let kind = SegmentKind::try_from(kinds[i])?;
-        read[i] = kind;
+    for (i, code) in kinds.iter().enumerate() {
+        read[i] = SegmentKind::try_from(*code)?;
     }
     Ok(read)
 }
@@ -179,6 +177,18 @@ impl FrameLayout {
         let mode = Mode::try_from(mode)?;
         let kinds = read_kinds(kinds)?;
         Ok(FrameLayout { mode, kinds })
+    }
+
+    // The layout of any thirteen bytes, each above 0 differential. What takes a layout answers for these as
+    // it does for kinds that `new` accepts.
+    pub fn of_codes(mode: Mode, codes: [u8; 13]) -> FrameLayout
+        ensures mode { result.mode ≡ mode }
+        ensures kinds { result.kinds ≡ map kind_from codes }
+    {
+        FrameLayout {
+            mode,
+            kinds: codes.map(SegmentKind::from_code),
+        }
     }
 
     // The kind of a segment.
@@ -206,7 +216,8 @@ impl FrameLayout {
     }
 }
 
-// Role map: the role byte of each carrier of the band.
+// Role map: the role byte of each carrier of the band. Mode, phase and kinds are numbers, as a C host
+// lends them.
 //
 // Refused by 1 for a bad mode, 2 unless there are thirteen kinds of 0 or 1, 3 for a bad phase, 7
 // unless the output has k_total bytes.

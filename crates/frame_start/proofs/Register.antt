@@ -6,6 +6,7 @@ use mathlib.Core.Logic.{◌⊎◌, inl, inr}
 use mathlib.Core.Path.{◌≡◌, refl, sym, ap, ◌∙◌}
 use Rattle.std.proofs.Common.{Some, None}
 use Rattle.std.specs.List.{fold, take-map}
+use Rattle.std.proofs.Common.{get_or-drop, take_all}
 use native.Mathlib.Omega.{arith}
 use native.Mathlib.Nat.{le_of_suc-le-suc, eq-or-lt_of_le}
 use native.Mathlib.Numerals.{add-one}
@@ -107,3 +108,25 @@ module _ (soft : List Float) (bits f b : ℕ) (d : Float) (c : Searched soft bit
       by : (g : ℕ) (w : SyncWord) → Stands soft g w → (g ≡ f) ⊎ (g < f) → ⊥
       by g w s (inl q) = neither w (held ∙ rw (← q) (word_held soft g w s))
       by g w s (inr l) = c.none g w l s
+
+-- ---- the values from the sixteenth on: the one at f ends the sixteen that start there
+pub record Turn (soft : List Float) (bits f b : ℕ) (d : Float) : Type 0 where
+  pub inside : f + 15 < length soft
+  pub read : b ≡ shifted_in bits (bit_of (get_or soft (f + 15) d))
+
+module _ (soft rest : List Float) (r : rest ≡ take (length soft - 15) (drop 15 soft)) where
+  all_behind : rest ≡ drop 15 soft
+  all_behind = r ∙ take_all (length soft - 15) (drop 15 soft) (omega (arith, length-drop 15 soft))
+
+  pub turn : (bits f b : ℕ) (d : Float) → f < length rest → b ≡ shifted_in bits (bit_of (get_or rest f d)) → Turn soft bits f b d
+  turn bits f b d h e =
+      let within : f < length (drop 15 soft) = rw all_behind at h in
+      let place : 15 + f ≡ f + 15 = omega arith in
+      record { inside = omega (arith, within, length-drop 15 soft); read = rw (all_behind, get_or-drop 15 soft f d, place) at e }
+
+  pub word_ends : (bits f b : ℕ) (d : Float) → Searched soft bits f → f < length rest → b ≡ shifted_in bits (bit_of (get_or rest f d))
+      → (w : SyncWord) → b ≡ behind 0 (word_bits w) → StartTold soft (Some (start_at f w))
+  word_ends bits f b d c h e = let t = turn bits f b d h e in word_found soft bits f b d c t.inside t.read
+
+  pub passed : (f : ℕ) → length rest ≤ f → length soft - 15 ≤ f
+  passed f h = omega (arith, ap length all_behind, length-drop 15 soft)

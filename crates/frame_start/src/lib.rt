@@ -15,8 +15,8 @@ const W1: u16 = 0b1100_1010_0001_0001;
 // A synchronising word: as the standard writes it, or its complement.
 #[derive(Clone, Copy, Debug, PartialEq, Eq)]
 pub enum SyncWord {
-    W0,
-    W1,
+    W0 = 0,
+    W1 = 1,
 }
 
 // 0 for the word as written, 1 for its complement.
@@ -24,10 +24,7 @@ impl From<SyncWord> for u8 {
     ghost from_gives = { λ word code. code ≡ word_code word };
 
     fn from(word: SyncWord) -> u8 {
-        match word {
-            SyncWord::W0 => 0,
-            SyncWord::W1 => 1,
-        }
+        word as u8
     }
 }
 
@@ -43,7 +40,7 @@ pub struct FrameStart {
 fn bit(value: f32) -> u16
     ensures { result ≡ bit_of value }
 {
-    if value < 0.0 { 1 } else { 0 }
+    u16::from(value < 0.0)
 }
 
 // The last sixteen bits with that of one value more: the oldest is shifted out.
@@ -65,13 +62,13 @@ fn first_bits(soft: &[f32]) -> u16
 
 // A start at which one of the words stands. Each value is read once: the last sixteen bits are carried
 // along from start to start.
-#[tactic(auto, using(crate::proofs::Register::begin, crate::proofs::Register::word_found))]
+#[tactic(auto, using(crate::proofs::Register::begin, crate::proofs::Register::word_ends))]
 pub fn frame_start(soft: &[f32]) -> Option<FrameStart>
     ensures { StartTold soft.now result }
 {
     let mut bits = first_bits(soft);
-    for start in 0..soft.len().saturating_sub(15) {
-        bits = shifted(bits, soft[start + 15]);
+    for (start, value) in soft.get(15..)?.iter().enumerate() {
+        bits = shifted(bits, *value);
         if bits == W0 {
             return Some(FrameStart {
                 start,

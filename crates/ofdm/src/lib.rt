@@ -10,7 +10,7 @@ ghost use Rattle.ofdm.specs.Band.{segment_at, place_of, first_carrier, carrier_a
 use params::{Mode, Refusal};
 
 // A carrier's number in the band: 0 is the lowest frequency, k_total - 1 the edge.
-#[derive(Clone, Copy)]
+#[derive(Clone, Copy, PartialEq, Eq)]
 pub struct BandCarrier(pub usize);
 
 // A carrier's place in its segment, from 0 to c - 1.
@@ -115,8 +115,8 @@ pub fn moved_up(bin: FftBin, up: usize, n: usize) -> FftBin
     FftBin(far - n)
 }
 
-// The FFT bin of carrier k in a mode that is given by its number: refused by 1 for a bad mode, by
-// 4 for a carrier that the band does not have.
+// The FFT bin of carrier k in a mode that is given by its number, as a C host gives it: refused by 1 for
+// a bad mode, by 4 for a carrier that the band does not have.
 #[tactic(auto, using(crate::specs::Laws::bin_looked_up))]
 pub fn bin_lookup(mode: u8, k: BandCarrier) -> Result<FftBin, Refusal>
     ensures { BinLookedUp (mode_from mode) k.0 result }

@@ -1,7 +1,8 @@
 // Transmission parameters, after params.rs of isdb-rs: modes, guard intervals and segment kinds
 // with their codes, and the sizes that follow from a mode (ARIB STD-B31, Tables 3-1 and 3-2).
 //
-// A code from outside becomes an enum once, at the border; behind it a wrong code cannot occur.
+// An operation turns each code that it is given into one of these types as it begins, and refuses a code
+// that none of them has. A few codes stay numbers; a comment says why where each stands.
 #![tactic(auto)]
 
 mod phase;
@@ -198,8 +199,8 @@ impl TryFrom<u8> for SegmentKind {
 }
 
 impl SegmentKind {
-    // The kind of a code, of any above 0 differential. No `From`, since it is not the only kind that a
-    // code could say: what comes from outside goes through `try_from`.
+    // The kind of a code where any code above 0 is differential. A code that has to be one of the two goes
+    // through `try_from`. No `impl From`: Rust has only one of From and TryFrom between two types.
     pub fn from_code(code: u8) -> SegmentKind
         ensures { result ≡ kind_from code }
     {

@@ -11,3 +11,5 @@ mode_named b m e = grind (arith, nat_tests)
 
 pub mode_unnamed : (b : ℕ) → mode_from (b - 48) ≡ None → (leb 49 b && leb b 51) ≡ false
 mode_unnamed b e = grind (arith, nat_tests)
+
+pub ruleset modes = (mode_named, mode_unnamed)

@@ -1,6 +1,6 @@
 -- What is told of a line and of its parts where they are read.
 -- Definitions only.
-use Rattle.std.specs.Prelude.{ℕ, ◌+◌, ◌-◌, ◌<◌, true, false, List, map, ◌≡◌, Some, Result, Ok, Err}
+use Rattle.std.specs.Prelude.{ℕ, ◌+◌, ◌-◌, true, false, List, map, ◌≡◌, Some, Result, Ok, Err}
 use Rattle.lists.specs.Tests.{all_in}
 use Rattle.params.specs.declared.Refusal.{Refusal}
 use Rattle.params.specs.declared.Refusal.TheVariants.{BadForm}

@@ -39,15 +39,15 @@ fn kind_of(letter: u8) -> Result<SegmentKind, Refusal>
 }
 
 // The kinds that thirteen letters stand for.
-// One loop with `frame::read_kinds` is no plainer: three lines here, where a closure's contract would tell what each call gives.
+// `frame::read_kinds` has such a loop too. One function for both is no plainer: it would take a closure,
+// and its contract would say what the closure gives for each entry.
 fn read_kinds(letters: &[u8]) -> Result<[SegmentKind; 13], Refusal>
     requires { length letters.now ≡ 13 }
     ensures { LettersTold letters.now result }
 {
     let mut kinds = [SegmentKind::Coherent; 13];
-    for i in 0..13 {
-        let kind = kind_of(letters[i])?;
-        kinds[i] = kind;
+    for (i, letter) in letters.iter().enumerate() {
+        kinds[i] = kind_of(*letter)?;
     }
     Ok(kinds)
 }
@@ -55,7 +55,7 @@ fn read_kinds(letters: &[u8]) -> Result<[SegmentKind; 13], Refusal>
 impl Question {
     // The question that a line asks. Refused by 11 unless the line has the form of one, then by 1 for
     // its mode, then by 3 for its phase.
-    #[tactic(auto, using(crate::proofs::Codes::mode_named, crate::proofs::Codes::mode_unnamed), unfolding(crate::specs::Question::line_code, crate::specs::Question::is_question))]
+    #[tactic(auto, using(crate::proofs::Codes::modes), unfolding(crate::specs::Question::line_code, crate::specs::Question::is_question))]
     pub fn parse(line: &[u8]) -> Result<Question, Refusal>
         ensures code { code_of result ≡ line_code line.now }
         ensures asked { IfOk result (λ question. Asked line.now question) }

@@ -2,6 +2,9 @@
 // of a segment (Tables 3-14 and 3-15), the sign register's first states (Table 3-16), carrier
 // randomizing (Table 3-13). The numbers are in standard.rt; specs/ holds them as definitions, with
 // their rules. A row is named by the segment number that the standard prints it for.
+//
+// Mode, kind and segment go together here and in the crates above: they name a row of a table. A struct of
+// the three is no plainer: callers hold each on its own, and would make the struct only for the call.
 #![tactic(auto)]
 
 mod standard;

@@ -27,10 +27,7 @@ fn filter_of(number: u8) -> Result<Option<SegmentKind>, Refusal>
 fn passes(filter: Option<SegmentKind>, kind: SegmentKind) -> bool
     ensures { result ≡ passes (filter_number filter) kind }
 {
-    match filter {
-        None => true,
-        Some(only) => only == kind,
-    }
+    filter.is_none_or(|only| only == kind)
 }
 
 // Adds the real parts of the products at places of the segment that has a place in the band. `spectra` are
@@ -72,7 +69,7 @@ fn soft_value(layout: FrameLayout, spectra: &[f32], filter: Option<SegmentKind>)
 
 // Of two spectra of k_total carriers, the earlier first: the real parts of the products of the later and
 // the conjugate of the earlier, summed over the TMCC carriers of the segments that the filter lets pass: 0
-// coherent, 1 differential, 2 all.
+// coherent, 1 differential, 2 all. Mode, kinds and filter are numbers, as a C host lends them.
 //
 // Refused by 1 for a bad mode, 2 unless there are thirteen kinds of 0 or 1, 5 unless two spectra, 3 for
 // another filter.

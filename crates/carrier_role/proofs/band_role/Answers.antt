@@ -6,6 +6,7 @@ use mathlib.Core.Path.{◌≡◌, sym, ◌∙◌}
 use native.Mathlib.Omega.{arith}
 use borrow.Author.Tests.{ne_eqb}
 use lib.ListN.{get_or}
+use Rattle.std.proofs.lemmas.Bool.{eqb-false}
 use Rattle.params.specs.declared.Mode.{Mode}
 use Rattle.params.specs.declared.SegmentKind.{SegmentKind}
 use Rattle.params.specs.Params.{total_carriers, kind_from, kind_codes}
@@ -38,6 +39,7 @@ module _ (mode : Mode) (kinds : List ℕ) (phase k edge : ℕ) (inside : k < tot
 pub returns : goal.returns
 returns c =
     let a = c.args in
-    of_place a.layout.mode (kind_codes a.layout.kinds) a.phase.number a.k.0 _ c.requires c.first_carrier-edge.ensures c.if-k-edge.false
+    let passed = eqb-false a.k.0 c.first_carrier-edge.result.0 (sym c.eq.ensures ∙ c.if-eq.false) in
+    of_place a.layout.mode (kind_codes a.layout.kinds) a.phase.number a.k.0 _ c.requires c.first_carrier-edge.ensures passed
     _ _ _ _ _ c.carrier_place-at.ensures.place c.segment_at_position-seg.ensures c.carrier_place-at.ensures.p c.kind.ensures
     c.place_role.ensures

@@ -5,7 +5,7 @@ use Rattle.question.proofs.Letters.{Read, one_more, all_read}
 use Rattle.question.proofs.read_kinds.Goals as goal
 
 pub loop-i-preserved : goal.loop-i-preserved
-loop-i-preserved c = one_more _ c.requires c.loop-i.i _ c.in_ok-kind.kind c.loop-i.invariant c.loop-i-test.true c.in_ok-kind.ensures
+loop-i-preserved c = one_more _ c.requires c.loop-i.i _ _ c.loop-i.invariant (omega arith) c.in_ok-kinds.ensures
 
 pub returns : goal.returns
 returns c =
