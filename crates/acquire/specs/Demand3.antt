@@ -70,7 +70,7 @@ pub record PhaseKept (mode : Mode) (kinds : List ℕ) (xs ys : List Float) : Typ
 -- ---- the guess: samples, negated, turned and amplified
 -- the fractional carrier offset of what a search found, or what was lent where nothing was
 abbrev pub cfo_given : Result (Option ModeGuess) Refusal → Float → Float
-cfo_given answer lent = guess_given (λ g. cfo_frac (pair g.re g.im)) answer lent
+cfo_given answer lent = guess_given (λ g. cfo_frac (pair g.correlation.re g.correlation.im)) answer lent
 
 pub record GuessKept (gain : ℕ) (modes guards : List ℕ) (room : ℕ) (xs ys : List Float) : Type 0 where
   -- found or not, mode, guard, offset and metric are the same, and both parts of the correlation are multiplied by the gain twice

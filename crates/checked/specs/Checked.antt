@@ -65,7 +65,13 @@ pub record Checked : Type 0 where
   pub pairs_10559 : (xs : List Float) → length xs ≡ 2 * 10559 → Guess xs (3 * 10560) (Ok None)
   pub pairs_10560 : (xs : List Float) → length xs ≡ 2 * 10560 → ((i : ℕ) → i < 10560 → pair_at xs i ≡ pair (whole binary32 1) (whole binary32 0))
       → Guess xs (3 * 10561)
-      (Ok (Some (record { mode = 1; guard = 32; offset = 0; metric = whole binary64 1; re = whole binary64 256; im = whole binary64 0 })))
+      (Ok (Some (record {
+        mode = 1;
+        guard = 32;
+        offset = 0;
+        metric = whole binary64 1;
+        correlation = record { re = whole binary64 256; im = whole binary64 0 };
+      })))
 
 -- ---- what such a call leaves is the whole list of the mode
 role : (kinds : List ℕ) (k : ℕ) (r : CarrierRole) → are_kinds kinds ≡ true → get_or (band_roles M1 0 (wide kinds)) k 0 ≡ role_byte r → Role kinds k r

@@ -147,7 +147,7 @@ guess_is : (k : ℕ) (xs ys : List Float) (mode guard d : ℕ) → let c = corre
     div binary64 (norm64 e) (energy_at ys mode guard d) ≡ div binary64 (norm64 c) (energy_at xs mode guard d)
     → e.re ≡ twice_gained k c.re → e.im ≡ twice_gained k c.im → guess_at ys mode guard d ≡ louder_guess k (guess_at xs mode guard d)
 unfolding guess_at
-guess_is k xs ys mode guard d m r i = λ j. record { mode = mode; guard = guard; offset = d; metric = m j; re = r j; im = i j }
+guess_is k xs ys mode guard d m r i = λ j. record { mode = mode; guard = guard; offset = d; metric = m j; correlation = record { re = r j; im = i j } }
 
 -- ---- without a gain all sums are the same
 module _ (negates turns : Bool) (xs ys : List Float) (h : ChangedSamples negates turns 0 xs ys) (mode guard d : ℕ) where
@@ -222,7 +222,7 @@ changed_guess negates c xs ys modes guards M N A h = by_gain negates c.turns c.g
 -- ---- what is made of both parts, and does not depend on a power of two that both are multiplied by, is the same
 module _ {A : Type 0} (f : Pair → A) (same : (j : ℕ) (p q : Pair) → Times j p.re q.re → Times j p.im q.im → f q ≡ f p) where
   abbrev of_parts : ModeGuess → A
-  of_parts g = f (pair g.re g.im)
+  of_parts g = f (pair g.correlation.re g.correlation.im)
 
   abbrev PartsKept : ℕ → Option ModeGuess → Type 0
   PartsKept k (Some g) = of_parts (louder_guess k g) ≡ of_parts g

@@ -270,7 +270,7 @@ some_above = refl
 
 -- ---- samples that are all (1, 0)
 abbrev found_guess : ModeGuess
-found_guess = record { mode = 1; guard = 32; offset = 0; metric = whole binary64 1; re = whole binary64 256; im = whole binary64 0 }
+found_guess = record { mode = 1; guard = 32; offset = 0; metric = whole binary64 1; correlation = record { re = whole binary64 256; im = whole binary64 0 } }
 
 module _ (xs : List Float) (n : length xs ≡ 2 * 10560) (h : (i : ℕ) → i < 10560 → pair_at xs i ≡ pair (whole binary32 1) (whole binary32 0)) where
   abbrev lags : ℕ
@@ -337,16 +337,22 @@ module _ (xs : List Float) (n : length xs ≡ 2 * 10560) (h : (i : ℕ) → i < 
   unfolding guess_at
   guess_is =
       let c = correlation_is 0 (lit< tt) in
-      λ j. record { mode = 1; guard = 32; offset = 0; metric = metric_is 0 (lit< tt) j; re = (c j).re; im = (c j).im }
+      λ j. record { mode = 1; guard = 32; offset = 0; metric = metric_is 0 (lit< tt) j; correlation = record { re = (c j).re; im = (c j).im } }
 
 pub ones_found : (xs : List Float) → length xs ≡ 2 * 10560 → ((i : ℕ) → i < 10560 → pair_at xs i ≡ pair (whole binary32 1) (whole binary32 0))
     → guessed xs (1 ∷ []) (32 ∷ [])
-    ≡ Some (record { mode = 1; guard = 32; offset = 0; metric = whole binary64 1; re = whole binary64 256; im = whole binary64 0 })
+    ≡ Some (record { mode = 1; guard = 32; offset = 0; metric = whole binary64 1; correlation = record { re = whole binary64 256; im = whole binary64 0 } })
 ones_found xs n h = searched xs n h ∙ ap Some (guess_is xs n h)
 
 pub offset_zero : (xs : List Float) (scratch : ℕ) → length xs ≡ 2 * 10560 → 3 * 10561 ≤ scratch
     → ((i : ℕ) → i < 10560 → pair_at xs i ≡ pair (whole binary32 1) (whole binary32 0))
     → guess_answer xs (1 ∷ []) (32 ∷ []) scratch
-    ≡ Ok (Some (record { mode = 1; guard = 32; offset = 0; metric = whole binary64 1; re = whole binary64 256; im = whole binary64 0 }))
+    ≡ Ok (Some (record {
+      mode = 1;
+      guard = 32;
+      offset = 0;
+      metric = whole binary64 1;
+      correlation = record { re = whole binary64 256; im = whole binary64 0 };
+    }))
 offset_zero xs scratch n r h =
     not_refused xs (1 ∷ []) (32 ∷ []) scratch (code_10560 (length xs) scratch n r) ∙ ap Ok (ones_found xs n h)

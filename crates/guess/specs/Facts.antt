@@ -111,13 +111,14 @@ found_is xs modes guards g e = subst (Good xs) e (search_keeps (Good xs) any xs 
 
 -- neither part of what is found is -0.0
 pub found_plain : (xs : List Float) (modes guards : List ℕ) (g : ModeGuess) → guessed xs modes guards ≡ Some g
-    → (canon g.re ≡ g.re) × (canon g.im ≡ g.im)
+    → (canon g.correlation.re ≡ g.correlation.re) × (canon g.correlation.im ≡ g.correlation.im)
 unfolding guess_at correlation_at
 found_plain xs modes guards g e =
     let at = (found_is xs modes guards g e).guess in
-    subst (λ (g : ModeGuess). (canon g.re ≡ g.re) × (canon g.im ≡ g.im)) (sym at) (plain g.mode g.guard g.offset)
+    subst (λ (g : ModeGuess). (canon g.correlation.re ≡ g.correlation.re) × (canon g.correlation.im ≡ g.correlation.im)) (sym at)
+    (plain g.mode g.guard g.offset)
   where
-    plain : (mode guard d : ℕ) → let g = guess_at xs mode guard d in (canon g.re ≡ g.re) × (canon g.im ≡ g.im)
+    plain : (mode guard d : ℕ) → let g = (guess_at xs mode guard d).correlation in (canon g.re ≡ g.re) × (canon g.im ≡ g.im)
     plain mode guard d = (window_plain _ _ _, window_plain _ _ _)
 
 -- ---- an answer's number is the number that refuses the call, and 0 where nothing does

@@ -32,7 +32,13 @@ energy_at xs mode guard d =
 unfoldable pub guess_at : List Float → ℕ → ℕ → ℕ → ModeGuess
 guess_at xs mode guard d =
     let g = correlation_at xs mode guard d in
-    record { mode = mode; guard = guard; offset = d; metric = div binary64 (norm64 g) (energy_at xs mode guard d); re = g.re; im = g.im }
+    record {
+      mode = mode;
+      guard = guard;
+      offset = d;
+      metric = div binary64 (norm64 g) (energy_at xs mode guard d);
+      correlation = record { re = g.re; im = g.im };
+    }
 
 -- ---- the search. An offset with energy at or below zero is passed over; the first other is taken, and then only a greater metric
 abbrev pub beats : ModeGuess → Option ModeGuess → Bool

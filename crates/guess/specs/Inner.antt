@@ -17,7 +17,7 @@ use Rattle.guess.specs.Guess.{beats, tried_guard}
 abbrev pub guess_of : ℕ → ℕ → ℕ → Window → ModeGuess
 guess_of mode guard d w =
     let metric = div binary64 (norm64 (of64 w.correlation)) w.energy in
-    record { mode = mode; guard = guard; offset = d; metric = metric; re = w.correlation.re; im = w.correlation.im }
+    record { mode = mode; guard = guard; offset = d; metric = metric; correlation = w.correlation }
 
 -- the better of the best so far and a guess with that energy
 abbrev pub better_of : Option ModeGuess → Float → ModeGuess → Option ModeGuess

@@ -17,7 +17,13 @@ twice_gained (suc k) x = mul binary64 x (two (2 * suc k))
 -- both parts of a guess
 abbrev pub louder_guess : ℕ → ModeGuess → ModeGuess
 louder_guess k g =
-    record { mode = g.mode; guard = g.guard; offset = g.offset; metric = g.metric; re = twice_gained k g.re; im = twice_gained k g.im }
+    record {
+      mode = g.mode;
+      guard = g.guard;
+      offset = g.offset;
+      metric = g.metric;
+      correlation = record { re = twice_gained k g.correlation.re; im = twice_gained k g.correlation.im };
+    }
 
 -- those of what a search found
 abbrev pub louder : ℕ → Option ModeGuess → Option ModeGuess

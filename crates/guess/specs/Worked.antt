@@ -49,9 +49,15 @@ module _ (xs : List Float) (n : length xs ≡ 2 * 10560) (h : (i : ℕ) → i < 
 
   pub doubled_found : (negates turns : Bool) (ys : List Float) (scratch : ℕ) → 3 * 10561 ≤ scratch → Changed (doubled negates turns) 1 (λ b. b) xs ys
       → guess_answer ys (1 ∷ []) (32 ∷ []) scratch
-      ≡ Ok (Some (record { mode = 1; guard = 32; offset = 0; metric = whole binary64 1; re = whole binary64 1024; im = whole binary64 0 }))
+      ≡ Ok (Some (record {
+        mode = 1;
+        guard = 32;
+        offset = 0;
+        metric = whole binary64 1;
+        correlation = record { re = whole binary64 1024; im = whole binary64 0 };
+      }))
   doubled_found negates turns ys scratch r c =
       not_refused ys (1 ∷ []) (32 ∷ []) scratch (code_10560 (length ys) scratch (c.long ∙ n) r)
       ∙ ap Ok (changed_guess negates (doubled negates turns) xs ys (1 ∷ []) (32 ∷ []) refl (rw n (lit≤ tt)) (inr (lit≤ tt, all_whole)) c)
       ∙ ap (λ (b : Option ModeGuess). Ok (louder 1 b)) (ones_found xs n h)
-      ∙ (λ j. Ok (Some (record { mode = 1; guard = 32; offset = 0; metric = whole binary64 1; re = twice_256 j; im = twice_0 j })))
+      ∙ (λ j. Ok (Some (record { mode = 1; guard = 32; offset = 0; metric = whole binary64 1; correlation = record { re = twice_256 j; im = twice_0 j } })))

@@ -8,11 +8,12 @@ ghost use Rattle.params.specs.Params.{code_of};
 ghost use Rattle.guess.specs.Guess.{tried_mode, guessed, guess_code, Searched};
 ghost use Rattle.guess.specs.Inner.{guess_of, better_of, Tried, Triable, AllTriable};
 
+use complex::C64;
 use correlation::Window;
 use params::Refusal;
 
-// A guess: codes of mode and guard, the offset of a guard's start, the metric, and both parts of the
-// summed correlation.
+// A guess: codes of mode and guard, the offset of a guard's start, the metric, and the summed
+// correlation.
 // Codes, since the C host lends codes and is handed them back: types here would only be made into codes again.
 #[derive(Clone, Copy)]
 pub struct ModeGuess {
@@ -20,8 +21,7 @@ pub struct ModeGuess {
     pub guard: u8,
     pub offset: usize,
     pub metric: f64,
-    pub re: f64,
-    pub im: f64,
+    pub correlation: C64,
 }
 
 // The better of the best so far and the guess at an offset.
@@ -42,8 +42,7 @@ fn offer(best: Option<ModeGuess>, mode: u8, guard: u8, d: usize, w: Window) -> O
         guard,
         offset: d,
         metric,
-        re: w.correlation.re,
-        im: w.correlation.im,
+        correlation: w.correlation,
     })
 }
 

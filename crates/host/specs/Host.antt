@@ -68,8 +68,8 @@ pub record GuessLent (a : Result (Option ModeGuess) Refusal) (f m g o : ℕ) (t 
   pub guard : g' ≡ guess_given (λ q. q.guard) a g
   pub offset : o' ≡ guess_given (λ q. q.offset) a o
   pub metric : t' ≡ guess_given (λ q. q.metric) a t
-  pub re : x' ≡ guess_given (λ q. q.re) a x
-  pub im : y' ≡ guess_given (λ q. q.im) a y
+  pub re : x' ≡ guess_given (λ q. q.correlation.re) a x
+  pub im : y' ≡ guess_given (λ q. q.correlation.im) a y
 
 -- ---- the soft TMCC value
 pub record SoftLent (a : Result Float Refusal) (v : Float) (r : ℕ) (v' : Float) : Type 0 where

@@ -135,8 +135,8 @@ pub fn sillurwy_detect_mode(
             *guard = guess.guard;
             *offset = guess.offset;
             *metric = guess.metric;
-            *re = guess.re;
-            *im = guess.im;
+            *re = guess.correlation.re;
+            *im = guess.correlation.im;
             0
         }
         Ok(None) => {
