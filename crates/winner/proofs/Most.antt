@@ -1,82 +1,93 @@
--- The most votes: the walk over the phases picks the phase that `won_by` picks and the count that `next_to` picks.
+-- The most votes: what `max_by_key` picks of the phases is what `won_by` picks, and the maximum without one phase is what `next_to` picks.
 -- Assumes nothing.
-use Prim.Native.Nat.{ℕ, zero, suc, ◌+◌, ◌-◌, ◌≤◌, ◌<◌, max}
-use mathlib.Core.Bool.{cond}
-use mathlib.Core.List.{List, ◌∷◌}
-use mathlib.Core.Path.{◌≡◌, refl, sym, ◌∙◌}
-use native.Mathlib.Numerals.{add-one}
+use Prim.Native.Nat.{ℕ, max}
+use mathlib.Core.Bool.{Bool, true, false, cond, not}
+use mathlib.Core.List.{List, [], ◌∷◌, map}
+use mathlib.Core.Path.{◌≡◌, refl, sym, ap, subst, ◌∙◌}
 use native.Mathlib.Omega.{arith}
-use borrow.Author.Tests.{le-ltb, le-leb, lt-leb, eq-eqb, ne_eqb}
-use lib.Dec.{eqb}
-use lib.ListN.{get_or, drop}
-use lib.Seq.{drop-cons}
-use Rattle.winner.specs.Winner.{better, won_by, larger, largest, others, next_to}
-use Rattle.winner.specs.Facts.{larger_one, larger_high, other_at}
+use denote.Param.Members.{Mut}
+use denote.Bor.{Bor}
+use lib.Dec.{leb}
+use Rattle.std.proofs.Common.{Option, Some, None}
+use Rattle.std.specs.Fn.{CalledAt}
+use Rattle.std.specs.Iterator.{KeyTurn, PicksMaxByKey}
+use Rattle.std.specs.List.{FoldsTo, fold, filter, reduce}
+use Rattle.std.specs.Option.{unwrap_or}
+use Rattle.std.specs.Ordering.{max_by_ordering, nat_cmp}
+use Rattle.std.proofs.lemmas.Iterator.{YieldsList, items_from_drains}
+use Rattle.std.proofs.lemmas.List.{map-id}
+use Rattle.std.proofs.lemmas.List.Folds.{max_of_map}
+use Rattle.winner.specs.Winner.{larger, largest}
 
 -- ---- the phase with the most
--- the best of `best` and the n phases from p on
-abbrev best_of : List ℕ → ℕ → ℕ → ℕ → ℕ
-best_of counts best p zero = best
-best_of counts best p (suc n) = best_of counts (better counts best p) (suc p) n
+-- the later of equals is picked
+picked : (a b x y : ℕ) → max_by_ordering (nat_cmp a b) x y ≡ cond (leb a b) y x
+picked a b x y = grind arith
 
--- the best before phase p, and the phases ahead, come to the best of all
-pub record Best (counts : List ℕ) (best p : ℕ) : Type 0 where
-  pub passed : p ≤ 4
-  pub phase : best < 4
-  pub same : best_of counts best p (4 - p) ≡ won_by counts
+-- f, which g calls, gives h of each item, and stays as it was
+module _ {F : Type 0} (g : Mut F (Bor ℕ × Unit {0}) ℕ) (f : F) (h : ℕ → ℕ)
+    (says : (x k : ℕ) (q : F) → CalledAt g f x k q → (q ≡ f) × (k ≡ h x)) where
+  abbrev Turn : (F × ℕ) × ℕ → ℕ → (F × ℕ) × ℕ → Type 0
+  Turn = KeyTurn max_by_ordering max_by_ordering g nat_cmp
 
-pub best_begin : {counts : List ℕ} → Best counts 0 1
-unfolding won_by
-best_begin = record { passed = omega arith; phase = omega arith; same = refl }
+  abbrev at : ℕ → (F × ℕ) × ℕ
+  at x = ((f, h x), x)
 
-module _ {counts : List ℕ} {best p : ℕ} (b : Best counts best p) where
-  next : p < 4 → best_of counts (better counts best p) (p + 1) (4 - (p + 1)) ≡ won_by counts
-  next h = let z : 4 - p ≡ suc (4 - suc p) = omega arith in rw add-one (rw z at b.same)
+  abbrev later : ℕ → ℕ → ℕ
+  later x z = cond (leb (h x) (h z)) z x
 
-  pub best_new : p < 4 → get_or counts best 0 ≤ get_or counts p 0 → Best counts p (p + 1)
-  best_new h l = record { passed = omega arith; phase = h; same = rw (le-leb _ _ l) at (next h) }
+  turned : (x z : ℕ) (q : (F × ℕ) × ℕ) → Turn (at x) z q → q ≡ at (later x z)
+  turned x z ((f', k'), z') (k, o, call, c, key, item) =
+      let s = says z k f' call in
+      let key' : k' ≡ h (later x z) = (rw (← c, s.1) at key) ∙ picked (h x) (h z) (h x) (h z) ∙ by (leb (h x) (h z)) in
+      let item' : z' ≡ later x z = (rw (← c, s.1) at item) ∙ picked (h x) (h z) x z in
+      cc
+    where
+      by : (b : Bool) → cond b (h z) (h x) ≡ h (cond b z x)
+      by true = refl
+      by false = refl
 
-  pub best_same : p < 4 → get_or counts p 0 < get_or counts best 0 → Best counts best (p + 1)
-  best_same h l = record { passed = omega arith; phase = b.phase; same = rw (lt-leb _ _ l) at (next h) }
+  abbrev best_of : List ℕ → ℕ
+  best_of [] = 0
+  best_of (x ∷ xs) = fold later x xs
+
+  folded : (xs : List ℕ) (x y : ℕ) (q : F × ℕ) → FoldsTo Turn (at x) xs (q, y) → y ≡ best_of (x ∷ xs)
+  folded [] x y q e = sym (ap (λ (p : (F × ℕ) × ℕ). p.1) e)
+  folded (z ∷ zs) x y q (j, t, rest) = folded zs (later x z) y q (subst (λ (p : (F × ℕ) × ℕ). FoldsTo Turn p zs (q, y)) (turned x z j t) rest)
+
+  pub best : {S : Type 0} {steps : S → Option ℕ → S → Type 0} {s : S} {x : ℕ} {xs : List ℕ} → YieldsList steps (λ (z : ℕ). z) s (x ∷ xs)
+      → (r : Option ℕ) → PicksMaxByKey steps g nat_cmp s f r → unwrap_or r 0 ≡ best_of (x ∷ xs)
+  best road None (u, (t, yields, end)) = let e = items_from_drains [] (t, yields, λ w. (u, end)) road in cc
+  best {x = x} {xs = xs} road (Some y) (z, zs, k, f', q, (u, (t, yields, end)), call, folds) =
+      let e : z ∷ zs ≡ x ∷ xs = sym (map-id (z ∷ zs)) ∙ items_from_drains (z ∷ zs) (t, yields, λ w. (u, end)) road in
+      let a = says z k f' call in
+      let begin : at z ≡ ((f', k), z) = cc in
+      folded zs z y q (subst (λ (p : (F × ℕ) × ℕ). FoldsTo Turn p zs (q, y)) (sym begin) folds) ∙ ap best_of e
 
 -- ---- the largest of the others
-larger_regroup : (x z m : ℕ) → larger x (larger z m) ≡ larger (larger z x) m
-larger_regroup x z m =
-    let left = larger x (larger z m) in
-    let right = larger (larger z x) m in
-    let l = larger_high x (larger z m) in
-    let i = larger_high z m in
-    let r = larger_high (larger z x) m in
-    let j = larger_high z x in
-    let low = larger_one (λ v. v ≤ right) x (larger z m) (omega arith) (larger_one (λ v. v ≤ right) z m (omega arith) (omega arith)) in
-    let high = larger_one (λ v. v ≤ left) (larger z x) m (larger_one (λ v. v ≤ left) z x (omega arith) (omega arith)) (omega arith) in
-    omega (arith, low, high)
+larger_max : (x m : ℕ) → larger x m ≡ max x m
+larger_max x m = grind arith
 
--- the most before phase q, and the phases ahead, come to the most of all
-pub record Most (counts : List ℕ) (p most q : ℕ) : Type 0 where
-  pub passed : q ≤ 4
-  pub same : larger most (largest (drop q (others counts p))) ≡ next_to counts p
+-- what f gives of the items without those that pass t; the definition has 0 for these
+module _ (t : ℕ → Bool) (f : ℕ → ℕ) where
+  abbrev greatest : ℕ → List ℕ → ℕ
+  greatest a ys = fold (λ m q. max m (f q)) a ys
 
-pub most_begin : {counts : List ℕ} {p : ℕ} → Most counts p 0 0
-unfolding next_to
-most_begin {counts} {p} = record { passed = omega arith; same = rw (le-ltb (largest (others counts p)) 0 (omega arith)) }
+  abbrev kept : List ℕ → List ℕ
+  kept xs = filter (λ q. not (t q)) xs
 
-module _ {counts : List ℕ} {p most q : ℕ} (m : Most counts p most q) where
-  again : (v : ℕ) → q < 4 → cond (eqb q p) 0 (get_or counts q 0) ≡ v → Most counts p (larger v most) (q + 1)
-  again v h e =
-      let ahead : drop q (others counts p) ≡ v ∷ drop (q + 1) (others counts p) =
-      drop-cons (others counts p) q 0 h ∙ rw (other_at counts p q h, e, add-one) in
-      record {
-        passed = omega arith;
-        same = sym (larger_regroup most v (largest (drop (q + 1) (others counts p)))) ∙ (rw ahead at m.same);
-      }
+  abbrev most : List ℕ → ℕ
+  most xs = largest (map (λ q. cond (t q) 0 (f q)) xs)
 
-  pub most_same : q < 4 → q ≡ p → Most counts p most (q + 1)
-  most_same h i = rw (le-ltb most 0 (omega arith)) at (again 0 h (rw (eq-eqb q p i)))
+  kept_max : (a : ℕ) (xs : List ℕ) → greatest a (kept xs) ≡ max a (most xs)
+  kept_max a [] = omega arith
+  kept_max a (x ∷ xs) = by (t x) (kept_max a xs) (kept_max (max a (f x)) xs)
+    where
+      by : (b : Bool) → greatest a (kept xs) ≡ max a (most xs) → greatest (max a (f x)) (kept xs) ≡ max (max a (f x)) (most xs)
+          → greatest a (cond (not b) (x ∷ kept xs) (kept xs)) ≡ max a (larger (cond b 0 (f x)) (most xs))
+      by true h k = h ∙ omega (arith, larger_max 0 (most xs))
+      by false h k = k ∙ omega (arith, larger_max (f x) (most xs))
 
-  pub most_other : q < 4 → (q ≡ p → ⊥) → Most counts p (max most (get_or counts q 0)) (q + 1)
-  most_other h i =
-      let v = get_or counts q 0 in
-      let e : larger v most ≡ max most v =
-      omega (arith, larger_high v most, larger_one (λ x. x ≤ max most v) v most (omega arith) (omega arith)) in
-      rw e at (again v h (rw (ne_eqb q p i)))
+  -- `filter`, `map`, `max`, and 0 of none
+  pub most_kept : (xs : List ℕ) → unwrap_or (reduce (λ p z. max_by_ordering (nat_cmp p z) p z) (map f (kept xs))) 0 ≡ most xs
+  most_kept xs = max_of_map f (kept xs) ∙ kept_max 0 xs ∙ omega arith

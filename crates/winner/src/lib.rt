@@ -6,30 +6,22 @@ ghost use Rattle.std.specs.Prelude.{◌≡◌};
 ghost use Rattle.winner.specs.Winner.{share_of, next_to, lead_of};
 ghost use Rattle.winner.specs.Inner.{Won, Few};
 
-// The phase with the most votes, the larger on a tie.
+// The phase with the most votes, the larger on a tie: `max_by_key` takes the last of equals.
 pub fn won_by(counts: [u32; 4]) -> usize
     ensures { Won counts result }
 {
-    let mut best: usize = 0;
-    for p in 1..4 {
-        if counts[best] <= counts[p] {
-            best = p;
-        }
-    }
-    best
+    (0..4).max_by_key(|p| counts[*p]).unwrap_or(0)
 }
 
 // The largest of the counts of the phases other than p.
 fn next_to(counts: [u32; 4], p: usize) -> u32
     ensures { result ≡ next_to counts p }
 {
-    let mut most: u32 = 0;
-    for q in 0..4 {
-        if q != p {
-            most = most.max(counts[q]);
-        }
-    }
-    most
+    (0..4)
+        .filter(|q| *q != p)
+        .map(|q| counts[q])
+        .max()
+        .unwrap_or(0)
 }
 
 // By how many votes the phase with the most leads.

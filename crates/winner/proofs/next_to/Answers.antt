@@ -1,18 +1,23 @@
--- `winner::next_to` meets its contract: the most so far, and the phases ahead, come to the largest of the others.
+-- `winner::next_to` meets its contract: the maximum without one phase is the largest of the others.
 -- Assumes nothing.
-use mathlib.Core.Path.{◌∙◌}
-use Rattle.winner.proofs.Most.{most_begin, most_same, most_other}
+use Rattle.std.proofs.Common.{ℕ, [], ◌∷◌, get_or, not, nat_eq, unwrap_or, ap, ◌∙◌, refl, rules}
+use Rattle.std.proofs.lemmas.Iterator.{YieldsList-from_range, YieldsList-from_map}
+use Rattle.std.proofs.lemmas.Iterator.Consumers.{YieldsList-from_filter, YieldsList-at, reduce_from_yields_List}
+use Rattle.winner.specs.Winner.{next_to}
+use Rattle.winner.proofs.Most.{most_kept}
 use Rattle.winner.proofs.next_to.Goals as goal
-use Rattle.winner.proofs.next_to.Goals.{then-q-p, else-q-p}
 
-pub loop-q-init : goal.loop-q-init
-loop-q-init c = most_begin
-
-pub loop-q-preserved : goal.loop-q-preserved
-loop-q-preserved c =
-    let m = c.loop-q.invariant in
-    let h = c.loop-q-test.true in
-    elim c.if-q-p.branch [
-      | then-q-p w ↦ rw (w.most-is ∙ w.max-most.ensures) (most_other m h w.if-q-p.true)
-      | else-q-p w ↦ rw w.most-is (most_same m h w.if-q-p.false)
-    ]
+pub returns : goal.returns
+unfolding next_to
+returns c =
+    let p = c.args.p in
+    let f = λ (q : ℕ). get_or c.args.counts q 0 in
+    let t = λ (q : ℕ). nat_eq q p in
+    c.unwrap_or.ensures
+    ∙ ap (λ o. unwrap_or o 0)
+    (reduce_from_yields_List _ c.map.result _ c.max.ensures.ran
+    (YieldsList-from_map _ f
+    (YieldsList-at c.map.ensures.source
+    (YieldsList-from_filter _ (λ q. not (t q)) (YieldsList-from_range 0 4 4 (cc) refl) c.filter.ensures.closure (λ x b q k. search rules)))
+    c.map.ensures.closure (λ x b q k. search rules)))
+    ∙ most_kept t f (0 ∷ 1 ∷ 2 ∷ 3 ∷ [])

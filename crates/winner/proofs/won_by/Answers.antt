@@ -1,18 +1,17 @@
--- `winner::won_by` meets its contract: the best so far, and the phases ahead, come to the best of all.
+-- `winner::won_by` meets its contract: of the four phases, `max_by_key` picks the best.
 -- Assumes nothing.
-use native.Mathlib.Omega.{arith}
-use Rattle.winner.proofs.Most.{best_begin, best_new, best_same}
+use Rattle.std.proofs.Common.{◌≡◌, get_or, refl, ◌∙◌, rules}
+use Rattle.std.proofs.lemmas.Iterator.{YieldsList-from_range}
+use Rattle.winner.specs.Winner.{won_by}
+use Rattle.winner.specs.Facts.{won_phase}
+use Rattle.winner.proofs.Most.{best}
 use Rattle.winner.proofs.won_by.Goals as goal
-use Rattle.winner.proofs.won_by.Goals.{then-counts-best, else-counts-best}
 
-pub loop-p-init : goal.loop-p-init
-loop-p-init c = best_begin
-
-pub loop-p-preserved : goal.loop-p-preserved
-loop-p-preserved c =
-    let b = c.loop-p.invariant in
-    let h = c.loop-p-test.true in
-    elim c.if-counts-best.branch [
-      | then-counts-best w ↦ rw w.best-is (best_new b h (omega (arith, w.if-counts-best.true)))
-      | else-counts-best w ↦ rw w.best-is (best_same b h (omega (arith, w.if-counts-best.false)))
-    ]
+pub returns : goal.returns
+unfolding won_by
+returns c =
+    let counts = c.args.counts in
+    let e : c.unwrap_or.result ≡ won_by counts =
+    c.unwrap_or.ensures
+    ∙ best _ _ (λ p. get_or counts p 0) (λ x k q h. search rules) (YieldsList-from_range 0 4 4 (cc) refl) _ c.max_by_key.ensures.ran in
+    record { won = e; phase = rw e (won_phase counts) }
