@@ -112,7 +112,8 @@ pub fn continual_carriers(layout: FrameLayout, out: &mut [u32]) -> Result<usize,
     collect_continual(band(layout, Phase { number: 0 }, &mut buffer), out)
 }
 
-// Data list: the data carriers of the band in segment-number order, ascending within a segment.
+// Data list: the data carriers of the band in segment-number order, ascending within a segment. Mode, phase
+// and kinds are numbers, as a C host lends them.
 //
 // Refused by 1 for a bad mode, 2 unless there are thirteen kinds of 0 or 1, 3 for a bad phase, 7
 // unless the output has 13 x nc numbers.
@@ -128,7 +129,8 @@ pub fn data_list(mode: u8, phase: u8, kinds: &[u8], out: &mut [u32]) -> Result<(
     Ok(())
 }
 
-// Continual list: all TMCC carriers, all AC carriers, all CP carriers, each ascending, and the edge.
+// Continual list: all TMCC carriers, all AC carriers, all CP carriers, each ascending, and the edge. Mode
+// and kinds are numbers, as a C host lends them.
 //
 // Hands back how many numbers it wrote; what lies beyond them keeps its contents. Refused by 1 for a
 // bad mode, 2 unless there are thirteen kinds of 0 or 1, 7 if the output is shorter than the count.

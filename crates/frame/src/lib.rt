@@ -155,7 +155,8 @@ pub struct FrameLayout {
 
 // Kinds from outside: thirteen codes, each 0 or 1.
 // `question::read_kinds` has such a loop too. One function for both is no plainer: it would take a closure,
-// and its contract would say what the closure gives for each entry.
+// and its contract would say what the closure gives for each entry. Over `read.iter_mut().zip(kinds)` the
+// proof did not close: it knows nothing of the entries that are written so.
 fn read_kinds(kinds: &[u8]) -> Result<[SegmentKind; 13], Refusal>
     ensures { KindsTold kinds.now result }
 {

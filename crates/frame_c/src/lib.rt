@@ -1,5 +1,6 @@
 // The role map for C under its own name, `role_map`, in an archive of its own. The C library, host_c, has
 // it under the prefix that all operations share.
+// The clause stands here and in frame: no crate can depend on a static library, so other crates call frame.
 #![tactic(auto)]
 
 ghost use Rattle.params.specs.Params.{mode_from};

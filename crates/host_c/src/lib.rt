@@ -1,5 +1,6 @@
 // The C library: every function of crates/host, under the same name and with the same clauses, so that
 // a host can call it. Numbers pass as themselves, and a slice as a pointer and a length.
+// The clauses stand in both crates: no crate can depend on a static library, so other crates call host.
 #![tactic(auto)]
 
 ghost use Rattle.std.specs.Prelude.{◌≡◌, length};

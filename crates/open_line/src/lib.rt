@@ -1,5 +1,5 @@
 // A line of the input that is open: a line of any length, held in 17 bytes and a count, and the
-// answer to it where it ends.
+// answer to it where it ends. The index to store at stands beside the buffer, as in `text`.
 #![tactic(auto)]
 
 ghost use Rattle.std.specs.Prelude.{◌≡◌, ◌≤◌, ◌+◌, length};

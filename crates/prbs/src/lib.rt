@@ -22,21 +22,12 @@ impl Prbs {
     pub fn init(row: u16) -> Prbs
         ensures { result.bits ≡ loaded row }
     {
-        Prbs {
-            bits: [
-                (row / 1024 % 2) as u8,
-                (row / 512 % 2) as u8,
-                (row / 256 % 2) as u8,
-                (row / 128 % 2) as u8,
-                (row / 64 % 2) as u8,
-                (row / 32 % 2) as u8,
-                (row / 16 % 2) as u8,
-                (row / 8 % 2) as u8,
-                (row / 4 % 2) as u8,
-                (row / 2 % 2) as u8,
-                (row % 2) as u8,
-            ],
+        // By a loop: over `std::array::from_fn` the proof did not close that the digits are `loaded row`.
+        let mut bits = [0; 11];
+        for (i, bit) in bits.iter_mut().enumerate() {
+            *bit = ((row >> (10 - i)) % 2) as u8;
         }
+        Prbs { bits }
     }
 
     // One step of x^11 + x^9 + 1: W is D11, and D9 xor D11 enters D1. W stays a number: a digit of the
@@ -100,7 +91,8 @@ pub fn band_w(mode: Mode, out: &mut [u8])
     out[edge] = edge_w(mode);
 }
 
-// Sign map: W of each carrier of the band, 0 for +4/3 and 1 for -4/3.
+// Sign map: W of each carrier of the band, 0 for +4/3 and 1 for -4/3. The mode is a number, as a C host
+// gives it.
 //
 // Refused by 1 for a bad mode, 7 unless the output has k_total bytes.
 pub fn sign_map(mode: u8, out: &mut [u8]) -> Result<(), Refusal>

@@ -40,7 +40,8 @@ fn kind_of(letter: u8) -> Result<SegmentKind, Refusal>
 
 // The kinds that thirteen letters stand for.
 // `frame::read_kinds` has such a loop too. One function for both is no plainer: it would take a closure,
-// and its contract would say what the closure gives for each entry.
+// and its contract would say what the closure gives for each entry. Over `kinds.iter_mut().zip(letters)` the
+// proof did not close: it knows nothing of the entries that are written so.
 fn read_kinds(letters: &[u8]) -> Result<[SegmentKind; 13], Refusal>
     requires { length letters.now ≡ 13 }
     ensures { LettersTold letters.now result }

@@ -21,7 +21,7 @@ use Rattle.question.specs.Question.{line_code}
 use Rattle.question.specs.Asked.{Asked}
 use Rattle.segment_answer.specs.Pieces.{line_of, line_head, counts_line}
 use Rattle.segment_answer.specs.Answer.{edge_line, list_lines, line_answer}
-use Rattle.segment_answer.specs.Laws.{line_parts, list_answer}
+use Rattle.segment_answer.specs.Laws.{segment_line_parts, list_answer}
 use Rattle.text.specs.Put.{Put}
 use Rattle.text.specs.Laws.{then, put_as}
 
@@ -41,7 +41,7 @@ pub segment_put : {out mid end : List ℕ} {at a r : ℕ} (question : Question) 
     → Put out at (line_of question place) r end
 segment_put question place seg letter carrier kind h es ec ek el p t =
     let k = segment_at place in
-    put_as (line_parts question.mode question.phase.number (kind_codes question.kinds) place question.phase.in_cycle h
+    put_as (segment_line_parts question.mode question.phase.number (kind_codes question.kinds) place question.phase.in_cycle h
     ∙ rw (el, ek, es, ec, add-zero, code_from question.kinds k, kind_again question.kinds k)) (then p t)
 
 -- the lines of a question that a line asks

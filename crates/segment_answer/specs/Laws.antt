@@ -1,6 +1,6 @@
--- The line of a segment in terms of a question's bytes, and the cases of a line's answer.
+-- The line of a segment in its pieces, for any kinds and for a question's bytes, and the cases of a line's answer.
 -- Assumes nothing.
-use Rattle.std.specs.Prelude.{ℕ, ◌+◌, ◌*◌, ◌<◌, List, ◌∷◌, ◌++◌, ◌≡◌, length, get_or, Option}
+use Rattle.std.specs.Prelude.{ℕ, ◌+◌, ◌*◌, ◌-◌, ◌≤◌, ◌<◌, List, ◌∷◌, ◌++◌, ◌≡◌, length, get_or, Option}
 use Rattle.std.proofs.Common.{append_assoc, sym, arith, eq-eqb, ne_eqb}
 use Rattle.params.specs.declared.Mode.{Mode}
 use Rattle.params.specs.declared.SegmentKind.{SegmentKind}
@@ -11,10 +11,10 @@ use Rattle.frame.specs.Roles.{segment_roles}
 use Rattle.role_counts.specs.Counts.{kind_counts}
 use Rattle.counted_roles.specs.CountedRoles.{segment_counted}
 use Rattle.text.specs.Decimal.{field}
-use Rattle.question.specs.Question.{mode_asked, phase_asked, kinds_asked, line_code}
-use Rattle.question.specs.Laws.{other_code, no_question}
+use Rattle.question.specs.Question.{mode_asked, phase_asked, kinds_asked, line_code, Answered}
+use Rattle.question.specs.Laws.{question_letter, kind_asked, other_code, no_question}
 use Rattle.segment_answer.specs.Answer.{counts, segment_line, refused_line, list_lines, line_answer}
-use Rattle.segment_answer.specs.Pieces.{three, line_head, counts_line}
+use Rattle.segment_answer.specs.Pieces.{three, line_at, line_head, counts_line}
 
 regroup : (a b c d : List ℕ) → (a ++ (b ++ c)) ++ d ≡ a ++ (b ++ (c ++ d))
 regroup a b c d = simp append_assoc
@@ -28,16 +28,26 @@ counts_line_lem mode kind row phase r p =
     rw (c.«data», c.sp, c.cp, c.tmcc, c.ac1, c.ac2)
     (sym (regroup (field k.«data») (field k.sp) (field k.cp) (three k.tmcc k.ac1 k.ac2 10)))
 
--- the line of a segment is its head and its counts
-pub line_parts : (mode : Mode) (phase : ℕ) (kinds : List ℕ) (place : ℕ) → phase < 4 → place < 13
+-- the line of a segment is its head and its counts, whatever the kinds are
+pub segment_line_parts : (mode : Mode) (phase : ℕ) (kinds : List ℕ) (place : ℕ) → phase < 4 → place < 13
     → segment_line mode phase kinds place
     ≡ line_head place (segment_at place) (67 + get_or kinds (segment_at place) 0) (place * carriers_per_segment mode)
     ++ counts_line (kind_counts mode (kind_from (get_or kinds (segment_at place) 0)))
 unfolding segment_line
-line_parts mode phase kinds place p h =
+segment_line_parts mode phase kinds place p h =
     rw (counts_line_lem mode (kind_from (get_or kinds (segment_at place) 0)) (segment_at place) phase (segment_below place h) p)
     (sym (regroup (field place) (field (segment_at place)) ((67 + get_or kinds (segment_at place) 0) ∷ 44 ∷ field (place * carriers_per_segment mode))
     (counts_line (kind_counts mode (kind_from (get_or kinds (segment_at place) 0))))))
+
+-- and for a question it shows the letters that were asked
+pub line_parts : (mode : Mode) (s : List ℕ) (place : ℕ) → Answered s → place < 13
+    → line_at mode s place ≡ line_head place (segment_at place) (get_or s (4 + segment_at place) 0) (place * carriers_per_segment mode)
+    ++ counts_line (kind_counts mode (kind_from (get_or s (4 + segment_at place) 0 - 67)))
+line_parts mode s place a h =
+    let seg = segment_at place in
+    let low : 67 ≤ get_or s (4 + seg) 0 = question_letter s a.question seg (segment_below place h) in
+    let shown : 67 + (get_or s (4 + seg) 0 - 67) ≡ get_or s (4 + seg) 0 = omega arith in
+    rw (kind_asked s seg, shown) at (segment_line_parts mode (phase_asked s) (kinds_asked s) place a.phase h)
 
 -- the answer to a line that is refused, and to one that is not
 pub refused_answer : (s : List ℕ) (code : ℕ) → code ≡ line_code s → (code ≡ 0 → ⊥) → line_answer s ≡ refused_line code

@@ -1,9 +1,13 @@
 // The answer to one line of the segment list of document 01: for a question a line for each of the
 // thirteen segments, by place, and one for the edge; for any other line its refusal.
+//
+// As in `text`, each function takes the buffer and the index to start at, and gives the index behind what it
+// stored; and numbers below 10000 have no type of their own.
 #![tactic(auto)]
 
-ghost use Rattle.std.specs.Prelude.{◌<◌, ◌≤◌, ◌+◌, ◌/◌, length};
+ghost use Rattle.std.specs.Prelude.{◌≡◌, ◌<◌, ◌≤◌, ◌+◌, ◌/◌, length};
 ghost use Rattle.lists.specs.Lists.{joined, range};
+ghost use Rattle.params.specs.Params.{kind_code};
 ghost use Rattle.role_counts.specs.Counts.{kind_counts};
 ghost use Rattle.text.specs.Put.{Put};
 ghost use Rattle.segment_answer.specs.Answer.{edge_line, refused_line, line_answer};
@@ -57,6 +61,16 @@ fn put_head(
     put_number(out, behind_comma, carrier.0, b',')
 }
 
+// The letter of a kind: the way back from `question::kind_of`.
+fn letter_of(kind: SegmentKind) -> u8
+    ensures { result ≡ 67 + kind_code kind }
+{
+    match kind {
+        SegmentKind::Coherent => b'C',
+        SegmentKind::Differential => b'D',
+    }
+}
+
 // The line of the segment at a place.
 fn put_segment(out: &mut [u8], at: usize, question: Question, place: BandPlace) -> usize
     requires { (at + 37 ≤ length out.old) × (place.0 < 13) }
@@ -65,7 +79,7 @@ fn put_segment(out: &mut [u8], at: usize, question: Question, place: BandPlace) 
 {
     let seg = ofdm::segment_at_position(place);
     let kind = question.kinds[seg.number];
-    let letter = b'C' + u8::from(kind);
+    let letter = letter_of(kind);
     let carrier = ofdm::band_carrier(question.mode, place, SegmentPlace(0));
     let behind_head = put_head(out, at, place, seg, letter, carrier);
     put_counts(out, behind_head, question.mode, kind)
@@ -95,7 +109,8 @@ fn put_edge(out: &mut [u8], at: usize, mode: Mode) -> usize
     put_text(out, behind_carrier, b"0,0,0,0,0,0\n")
 }
 
-// The line of a refusal, by its number: the form of the line has room for any below 10000.
+// The line of a refusal, by its number: the form of the line has room for any below 10000. It takes any such
+// number, not a `Refusal`: a narrower type would ask more of callers, and no contract may ask more than it did.
 #[tactic(auto, using(text::specs::Laws::then), unfolding(crate::specs::Answer::refused_line))]
 pub fn put_refused(out: &mut [u8], at: usize, code: usize) -> usize
     requires { (at + 512 ≤ length out.old) × (code < 10000) }

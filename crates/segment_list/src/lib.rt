@@ -1,5 +1,6 @@
 // The segment list of document 01 for the lines of an input, which comes in pieces of any length: each
-// line is answered where its line feed comes, and the last where the input ends.
+// line is answered where its line feed comes, and the last where the input ends. The index to store at stands
+// beside the buffer, as in `text`.
 #![tactic(auto)]
 
 ghost use Rattle.std.specs.Prelude.{[], ◌∷◌, ◌≡◌, ◌≤◌, ◌+◌, leb, length};

@@ -18,49 +18,57 @@ use std::io::{Stdin, Stdout, Write};
 // The bytes that are read at a time, and those of the answers that are kept until they are written.
 const BUFFER: usize = 65536;
 
-// Answers the lines that end in some bytes of the input: the line that is open after them. Each turn
-// takes as many bytes as `feed` says, so no `for` goes over them.
-fn answer(mut stdout: Stdout, line: Line, bytes: &[u8], out: &mut [u8; BUFFER]) -> io::Result<Line>
-    ensures { IfOk result (λ held. Leaves line bytes.now held) }
-{
-    let mut held = line;
-    let mut from: usize = 0;
-    while from < bytes.len() {
-        let fed = segment_list::feed(held, bytes, from, out, 0);
-        held = fed.line;
-        from = fed.used;
-        stdout.write_all(&out[..fed.written])?;
+// Where the answers go: standard output, and the bytes that are kept until they are written there.
+#[derive(Drop)]
+struct Output {
+    stdout: Stdout,
+    kept: [u8; BUFFER],
+}
+
+impl Output {
+    // Answers the lines that end in some bytes of the input: the line that is open after them. Each turn
+    // takes as many bytes as `feed` says, so no `for` goes over them.
+    fn answer(&mut self, line: Line, bytes: &[u8]) -> io::Result<Line>
+        ensures { IfOk result (λ held. Leaves line bytes.now held) }
+    {
+        let mut held = line;
+        let mut from: usize = 0;
+        while from < bytes.len() {
+            let fed = segment_list::feed(held, bytes, from, &mut self.kept, 0);
+            held = fed.line;
+            from = fed.used;
+            self.stdout.write_all(&self.kept[..fed.written])?;
+        }
+        Ok(held)
     }
-    Ok(held)
+
+    // Answers the last line, where it lacks its line feed.
+    fn finish(&mut self, line: Line) -> io::Result<()> {
+        let n = open_line::finish(line, &mut self.kept, 0);
+        self.stdout.write_all(&self.kept[..n])
+    }
 }
 
 // Reads once, and answers what was read: the line that is open then, or none where the input has ended.
 fn read_once(
     mut stdin: Stdin,
-    stdout: Stdout,
+    output: &mut Output,
     line: Line,
     buffer: &mut [u8],
-    out: &mut [u8; BUFFER],
 ) -> io::Result<Option<Line>> {
     match reading::read(&mut stdin, buffer)? {
-        Some(n) => Ok(Some(answer(stdout, line, &buffer[..n], out)?)),
+        Some(n) => Ok(Some(output.answer(line, &buffer[..n])?)),
         None => Ok(None),
     }
 }
 
-// Answers the last line, where it lacks its line feed.
-fn answer_last(mut stdout: Stdout, line: Line, out: &mut [u8; BUFFER]) -> io::Result<()> {
-    let n = open_line::finish(line, out, 0);
-    stdout.write_all(&out[..n])
-}
-
 // Nothing says that the input ends, so the loop has more turns than any run uses up.
-fn run(stdin: Stdin, stdout: Stdout, buffer: &mut [u8], out: &mut [u8; BUFFER]) -> io::Result<()> {
+fn run(stdin: Stdin, output: &mut Output, buffer: &mut [u8]) -> io::Result<()> {
     let mut line = Line::new();
     for _ in 0..u64::MAX {
-        match read_once(stdin, stdout, line, buffer, out)? {
+        match read_once(stdin, output, line, buffer)? {
             Some(open) => line = open,
-            None => return answer_last(stdout, line, out),
+            None => return output.finish(line),
         }
     }
     Ok(())
@@ -68,7 +76,10 @@ fn run(stdin: Stdin, stdout: Stdout, buffer: &mut [u8], out: &mut [u8; BUFFER]) 
 
 fn main(rt: HostRuntime) {
     let mut buffer = [0u8; BUFFER];
-    let mut out = [0u8; BUFFER];
+    let mut output = Output {
+        stdout: rt.stdout(),
+        kept: [0u8; BUFFER],
+    };
     // Nobody is left to tell of a read or a write that failed.
-    let _ = run(rt.stdin(), rt.stdout(), &mut buffer, &mut out);
+    let _ = run(rt.stdin(), &mut output, &mut buffer);
 }

@@ -2,6 +2,8 @@
 // the index behind what it stored.
 // The index stays beside the buffer: each contract over a cursor that held both would also have to say
 // that it still holds the same buffer, by its ghost name.
+// `n < 10000` stands where a number is put: a type for such numbers is no plainer, since each caller would make
+// one of its number only for the call.
 // Digits are put by hand: `write!` to a lent slice, by std's Cursor, says nothing of the bytes.
 #![tactic(auto)]
 

@@ -11,7 +11,7 @@ returns-in_err-value-items c = rw c.from_residual.ensures (end c.args.soft.now _
 pub loop-start-preserved : goal.loop-start-preserved
 loop-start-preserved c =
     let t = turn c.args.soft.now _ c.in_ok-value-items.ensures.lookup.0.2 _ _ _ _ c.loop-start-test.true c.shifted-bits.ensures in
-    no_word _ _ _ _ _ c.loop-start.invariant t.inside t.read c.if-bits-eq-W0.false c.if-bits.false
+    no_word _ _ _ _ _ c.loop-start.invariant t.inside t.read (λ q. omega arith) (λ q. omega arith)
 
 pub returns : goal.returns
 returns c = end _ _ _ c.loop-start.invariant (passed c.args.soft.now _ c.in_ok-value-items.ensures.lookup.0.2 _ c.loop-start-test.false)

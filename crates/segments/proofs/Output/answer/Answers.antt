@@ -1,8 +1,8 @@
--- `segments::answer` meets its contract: each turn hands on the line that is open after the bytes taken.
+-- `segments::Output::answer` meets its contract: each turn hands on the line that is open after the bytes taken.
 -- Assumes nothing.
 use Rattle.std.proofs.Common.{arith}
 use Rattle.segment_list.specs.Fed.{leaves_none, leaves_slice}
-use Rattle.segments.proofs.answer.Goals as goal
+use Rattle.segments.proofs.Output.answer.Goals as goal
 
 pub loop-from-init : goal.loop-from-init
 loop-from-init c = record { within = omega arith; leaves = leaves_none _ }
