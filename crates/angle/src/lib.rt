@@ -24,20 +24,29 @@ pub struct Size {
     pub k: u64,
 }
 
-// The size that bits without their sign stand for. A subnormal has the exponent of the smallest normal
-// numbers, so it is not brought to full digits first.
-fn size_of(bits: u64) -> Size
-    requires { bits < 9218868437227405312 }
-    ensures { (result.m ≡ digits bits) × (result.k ≡ exponent bits) }
-{
-    let e = bits / 0x10_0000_0000_0000;
-    let t = bits % 0x10_0000_0000_0000;
-    if e == 0 {
-        return Size { m: t, k: 0 };
-    }
-    Size {
-        m: t + 0x10_0000_0000_0000,
-        k: e - 1,
+// The bits of a finite number, without their sign: larger bits are a larger size.
+#[derive(Clone, Copy)]
+struct Unsigned {
+    bits: u64,
+    ghost finite: { bits < 9218868437227405312 },
+}
+
+impl Unsigned {
+    // The size that they stand for. A subnormal has the exponent of the smallest normal numbers, so it is
+    // not brought to full digits first. `root` takes bits apart by the same few lines: one function for both
+    // would need digits and exponent defined, with their laws, in `ieee`, and is no plainer.
+    fn size(self) -> Size
+        ensures { (result.m ≡ digits self.bits) × (result.k ≡ exponent self.bits) }
+    {
+        let e = self.bits / 0x10_0000_0000_0000;
+        let t = self.bits % 0x10_0000_0000_0000;
+        if e == 0 {
+            return Size { m: t, k: 0 };
+        }
+        Size {
+            m: t + 0x10_0000_0000_0000,
+            k: e - 1,
+        }
     }
 }
 
@@ -51,15 +60,15 @@ fn divided(m: u64, n: u64) -> u64
     x / n * 2048 + y / n
 }
 
-// The slope of a pair with the bits a and b, of which b is not the greater: larger bits are a larger
-// size. Cut after the division by the digits, it is moved down by the exponents' difference, and what
-// that cuts is the same as if all were divided at once.
-fn slope_of(a: u64, b: u64) -> u64
-    requires { (b ≤ a) × (0 < a) × (a < 9218868437227405312) }
-    ensures { result ≡ slope (size_of a) (size_of b) }
+// The slope of the pair of a and b, of which b is not the greater. Cut after the division by the digits,
+// it is moved down by the exponents' difference, and what that cuts is the same as if all were divided at
+// once.
+fn slope_of(a: Unsigned, b: Unsigned) -> u64
+    requires { (b.bits ≤ a.bits) × (0 < a.bits) }
+    ensures { result ≡ slope (size_of a.bits) (size_of b.bits) }
 {
-    let p = size_of(a);
-    let q = size_of(b);
+    let p = a.size();
+    let q = b.size();
     let d = p.k - q.k;
     let w = divided(q.m, p.m);
     if d > 22 {
@@ -95,12 +104,12 @@ fn octant_of(q: u64) -> u64
     (e.lo * (65536 - f) + e.hi * f + 131072) / 262144
 }
 
-// The angle of the pair of sizes with the bits a and b, not both zero.
-fn quarter_of(a: u64, b: u64) -> u64
-    requires { (a < 9218868437227405312) × (b < 9218868437227405312) × (0 < a + b) }
-    ensures { (result ≡ quarter (size_of a) (size_of b)) × (result ≤ 16384) }
+// The angle of the pair of a and b, not both zero.
+fn quarter_of(a: Unsigned, b: Unsigned) -> u64
+    requires { 0 < a.bits + b.bits }
+    ensures { (result ≡ quarter (size_of a.bits) (size_of b.bits)) × (result ≤ 16384) }
 {
-    if b <= a {
+    if b.bits <= a.bits {
         return octant_of(slope_of(a, b));
     }
     16384 - octant_of(slope_of(b, a))
@@ -127,7 +136,8 @@ fn circle_of_bits(x: u64, y: u64) -> u64
     if a >= 0x7ff0_0000_0000_0000 || b >= 0x7ff0_0000_0000_0000 || a + b == 0 {
         return 0;
     }
-    mirror_of(y, 65536, mirror_of(x, 32768, quarter_of(a, b)))
+    let quarter = quarter_of(Unsigned { bits: a }, Unsigned { bits: b });
+    mirror_of(y, 65536, mirror_of(x, 32768, quarter))
 }
 
 // The same of numbers. The bits of a NaN are not decided, so it is passed over first.

@@ -101,8 +101,9 @@ impl<T: Float> Sub for Complex<T> {
 }
 
 impl Complex<f32> {
-    // The squared size in f64, where squares and sum neither overflow nor round to zero. The tests for
-    // NaN take less time than `widen`, which keeps it.
+    // The squared size in f64, where squares and sum neither overflow nor round to zero.
+    // Not `self.widen().norm_sqr()`, which needs no test for a NaN: measured, `norm32` took 11 in 100 longer
+    // by it, and it may take no longer than before.
     #[tactic(auto, using(crate::proofs::Nans::of_re, crate::proofs::Nans::of_im))]
     pub fn wide_norm_sqr(self) -> f64
         ensures { result ≡ squared_size binary64 (of32 self) }

@@ -97,7 +97,8 @@ fn try_mode(
     best
 }
 
-// Every mode. Modes and guards are two lists, since a C host lends two.
+// Every mode. Modes and guards are two lists, since a C host lends two. Samples, lists and scratch go
+// together through these functions, and a C host lends each by itself: one struct of them is no plainer.
 #[tactic(auto, unfolding(crate::specs::Guess::guessed, crate::specs::Guess::scan))]
 fn search(samples: &[f32], modes: &[u8], guards: &[u8], scratch: &mut [f64]) -> Option<ModeGuess>
     requires { AllTriable samples.now guards.now scratch.old }

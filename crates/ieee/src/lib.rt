@@ -18,7 +18,7 @@ fn closest(m: u64, p: u64) -> u64
     ensures { result ≡ Nearest.closest m p }
 {
     let q = m / p;
-    q + (p < m % p * 2 + q % 2) as u64
+    q + u64::from(p < m % p * 2 + q % 2)
 }
 
 // The bits of the f32 nearest to the f64 whose bits are b, both without their sign. The digits that

@@ -2,18 +2,20 @@
 -- Assumes nothing.
 use Prim.Native.Nat.{ℕ, ◌+◌, ◌-◌, ◌*◌, ◌/◌, ◌%◌, ◌≤◌, ◌<◌}
 use mathlib.Core.List.{List, ◌++◌}
-use mathlib.Core.Path.{◌≡◌, sym, ap, ◌∙◌}
+use mathlib.Core.Path.{◌≡◌, refl, sym, ap, ◌∙◌}
 use native.Mathlib.Decide.{dec_lt}
 use native.Mathlib.Omega.{arith}
 use lib.Arith.{digits_div, digits_mod}
 use lib.Ieee.{Float, nan}
-use lib.ListN.{length, drop, get_or}
-use lib.Seq.{sets}
+use lib.ListN.{length, take, drop, get_or}
+use lib.Seq.{sets, sets-eq, drop-drop}
+use borrow.Rule.Slice.PartMut.{put_mid}
 use Rattle.std.specs.Prelude.{min}
-use Rattle.std.proofs.lemmas.List.{get_or-drop}
+use Rattle.std.proofs.Common.{append_assoc}
+use Rattle.std.proofs.lemmas.List.{get_or-drop, length-drop, length-take-le}
 use Rattle.lists.specs.Lists.{up_to}
-use Rattle.lists.specs.Fill.{fill_part}
-use Rattle.lists.specs.Select.{up_to_same}
+use Rattle.lists.specs.Fill.{fill_done, fill_part}
+use Rattle.lists.specs.Select.{length_up_to, up_to_same}
 use Rattle.complex.specs.Complex.{Pair, pair}
 use Rattle.spectra.specs.Spectra.{pair_at, with_pair, column}
 use Rattle.spectra.specs.Flat.{length_with, pair_with_same, pair_with_other, column_is}
@@ -123,6 +125,17 @@ gathered_column xs len bins n block i m h =
   where
     same : (t : ℕ) → pair_at block (t * 1 + i * bins.slot) ≡ pair_at block (i * bins.slot + t)
     same t = ap (pair_at block) (omega arith)
+
+-- ---- a part of a list that is written from its front, once it is written to its end
+pub put_part : (f : ℕ → Float) (out part : List Float) (a n i : ℕ) → let old = take (a + n - a) (drop a out) in
+    a + n ≤ length out → part ≡ up_to f i ++ drop i old → i ≤ length old → length old ≤ i → put_mid a (a + n - a) out part ≡ sets out a (up_to f n)
+put_part f out part a n i room front few end =
+    let old = take (a + n - a) (drop a out) in
+    let long : length old ≡ n = length-take-le (a + n - a) (drop a out) (rw (length-drop a out) (omega arith)) ∙ omega arith in
+    let e : part ≡ up_to f n = fill_done f old part n i front end (omega arith) in
+    let size : a + n - a ≡ n = omega arith in
+    let all : length (up_to f n) ≡ n = length_up_to f n in
+    rw (e, size, sets-eq (up_to f n) out a (rw all room), all, drop-drop n a out, append_assoc) refl
 
 -- ---- the ratios of the copied bins, stored behind those before them
 pub block_more : (xs : List Float) (len : ℕ) (bins : BinBlock) (block old out new : List Float)

@@ -1,15 +1,15 @@
 -- Sums of products, term by term: one more, several more, and all of them are a bin's.
 -- Assumes nothing.
-use Prim.Native.Nat.{ℕ, suc, ◌+◌, ◌*◌, ◌<◌, ◌≤◌}
+use Prim.Native.Nat.{ℕ, suc, ◌+◌, ◌-◌, ◌*◌, ◌<◌, ◌≤◌}
 use mathlib.Core.List.{List, [], ◌∷◌, ◌++◌}
 use mathlib.Core.Path.{◌≡◌, refl, sym, ap, ◌∙◌}
 use native.Mathlib.Decide.{dec_lt}
-use native.Mathlib.Nat.{zero-add}
+use native.Mathlib.Nat.{zero-add, le_of_eq}
 use native.Mathlib.Numerals.{add-one}
 use native.Mathlib.Omega.{arith}
 use lib.Ieee.{Float, nan, binary32, add}
 use lib.ListN.{get_or, length, set, take, drop}
-use Rattle.std.proofs.lemmas.List.{length-take-le, take-append-le}
+use Rattle.std.proofs.lemmas.List.{length-take-le, length-drop, take-append-le}
 use lib.Seq.{take_all, ext_get_or, get_or-set_same, get_or-set_other}
 use Rattle.ieee.specs.Sums.{total, total_append}
 use Rattle.lists.specs.Lists.{up_to}
@@ -22,6 +22,7 @@ use Rattle.spectra.specs.Flat.{pair_with_same, pair_with_other, one_bin}
 use Rattle.ratio.specs.declared.BinSums.{BinSums}
 use Rattle.ratio.specs.Ratio.{steps, square_of, size_of, correlation, energy}
 use Rattle.ratio.specs.Facts.{every_step, step_at_lem}
+use Rattle.ratio.proofs.Slots.{pair_from}
 use Rattle.ratio.specs.Inner.{Started, Stepped, step_at, TermsPut, SummedTo, TermsAdded, Summed}
 
 -- ---- a sum of the first values of a function, and the next
@@ -35,22 +36,31 @@ pub totals_last : (s : Pair) (f : ℕ → Pair) (n : ℕ) (t v : Pair) → t ≡
 unfolding totals
 totals_last s f n t v e g = (λ i. plus binary32 (e i) (g i)) ∙ rw (add-one n) (sym (totals_append binary32 s (up_to f n) (f n ∷ [])))
 
+-- ---- pairs from pair k on
+pub from_pair : (xs : List Float) (k : ℕ) → take (length xs - 2 * k) (drop (2 * k) xs) ≡ drop (2 * k) xs
+from_pair xs k = take_all _ _ (le_of_eq (length-drop (2 * k) xs))
+
+step_from : (xs : List Float) (k j : ℕ) → step_at (drop (2 * k) xs) j ≡ step_at xs (k + j)
+step_from xs k j =
+    let next : k + (j + 1) ≡ k + j + 1 = omega arith in
+    λ i. product binary32 ((pair_from xs k (j + 1) ∙ ap (pair_at xs) next) i) (conjugate (pair_from xs k j i))
+
 -- ---- terms stored one after the other
 -- a product as it is worked out
 pub product_of : (xs : List Float) (k : ℕ) (x y z p : Pair) → y ≡ pair_at xs k → x ≡ pair_at xs (k + 1) → z ≡ conjugate y → p ≡ product binary32 x z
     → p ≡ step_at xs k
 product_of xs k x y z p e g h q = q ∙ λ i. product binary32 (g i) ((h ∙ ap conjugate e) i)
 
-pub put_again : (xs : List Float) (k n : ℕ) (squares sizes : List Float) (q : Pair) (z : Float)
-    → 2 * n + 1 < length squares → n < length sizes → q ≡ square_of (step_at xs (k + n)) → z ≡ size_of (step_at xs (k + n))
-    → TermsPut xs k n squares sizes → TermsPut xs k (n + 1) (with_pair squares n q) (set sizes n z)
-put_again xs k n squares sizes q z room space e g h = record { squared = λ i l. square i (dec_lt i n) l; sized = λ i l. size i (dec_lt i n) l }
+pub put_again : (xs : List Float) (n : ℕ) (squares sizes : List Float) (q : Pair) (z : Float)
+    → 2 * n + 1 < length squares → n < length sizes → q ≡ square_of (step_at xs n) → z ≡ size_of (step_at xs n)
+    → TermsPut xs n squares sizes → TermsPut xs (n + 1) (with_pair squares n q) (set sizes n z)
+put_again xs n squares sizes q z room space e g h = record { squared = λ i l. square i (dec_lt i n) l; sized = λ i l. size i (dec_lt i n) l }
   where
-    square : (i : ℕ) → Dec (i < n) → i < n + 1 → pair_at (with_pair squares n q) i ≡ square_of (step_at xs (k + i))
+    square : (i : ℕ) → Dec (i < n) → i < n + 1 → pair_at (with_pair squares n q) i ≡ square_of (step_at xs i)
     square i (yes l) b = pair_with_other squares n i q (λ s. omega arith) ∙ h.squared i l
     square i (no l) b = let s : i ≡ n = omega arith in rw s (pair_with_same squares n q room ∙ e)
 
-    size : (i : ℕ) → Dec (i < n) → i < n + 1 → get_or (set sizes n z) i nan ≡ size_of (step_at xs (k + i))
+    size : (i : ℕ) → Dec (i < n) → i < n + 1 → get_or (set sizes n z) i nan ≡ size_of (step_at xs i)
     size i (yes l) b = get_or-set_other sizes n i z nan (λ s. omega arith) ∙ h.sized i l
     size i (no l) b = let s : i ≡ n = omega arith in rw s (get_or-set_same sizes n z nan space ∙ g)
 
@@ -68,19 +78,20 @@ sum_step xs k s r x y e g h t =
       den = t.den ∙ total_last _ _ k _ _ h.den (ap size_of own);
     }
 
+-- the terms of the pairs from pair k on
 sum_terms : (xs : List Float) (k n : ℕ) (squares sizes : List Float) (s r : BinSums)
-    → SummedTo xs k s → TermsPut xs k n squares sizes → TermsAdded s squares sizes n r → SummedTo xs (k + n) r
+    → SummedTo xs k s → TermsPut (drop (2 * k) xs) n squares sizes → TermsAdded s squares sizes n r → SummedTo xs (k + n) r
 sum_terms xs k n squares sizes s r h p t =
     let square : ℕ → Pair = λ i. square_of (step_at xs i) in
     let size : ℕ → Float = λ i. size_of (step_at xs i) in
     record {
       num =
           t.num
-          ∙ (λ i. totals binary32 (h.num i) (up_to_same (pair_at squares) (λ j. square (k + j)) n p.squared i))
+          ∙ (λ i. totals binary32 (h.num i) (up_to_same (pair_at squares) (λ j. square (k + j)) n (λ j l. p.squared j l ∙ ap square_of (step_from xs k j)) i))
           ∙ sym (ap (totals binary32 _) (up_to_add square k n) ∙ totals_append binary32 _ (up_to square k) (up_to (λ j. square (k + j)) n));
       den =
           t.den
-          ∙ (λ i. total binary32 (h.den i) (up_to_same (λ j. get_or sizes j nan) (λ j. size (k + j)) n p.sized i))
+          ∙ (λ i. total binary32 (h.den i) (up_to_same (λ j. get_or sizes j nan) (λ j. size (k + j)) n (λ j l. p.sized j l ∙ ap size_of (step_from xs k j)) i))
           ∙ sym (ap (total binary32 _) (up_to_add size k n) ∙ total_append binary32 _ (up_to size k) (up_to (λ j. size (k + j)) n));
     }
 
@@ -92,7 +103,7 @@ front_of m xs old new l e h =
 
 pub sum_front : (xs : List Float) (k m n : ℕ) (squares sizes squares' sizes' : List Float) (s r : BinSums)
     → k + m ≡ n → 2 * m ≤ length squares → m ≤ length sizes → length squares' ≡ length (take (2 * m) squares) → length sizes' ≡ length (take m sizes)
-    → SummedTo xs k s → TermsPut xs k (length (take m sizes)) squares' sizes'
+    → SummedTo xs k s → TermsPut (drop (2 * k) xs) (length (take m sizes)) squares' sizes'
     → TermsAdded s (take (2 * m) (squares' ++ drop (2 * m) squares)) (take m (sizes' ++ drop m sizes)) (length (take m (sizes' ++ drop m sizes))) r
     → SummedTo xs n r
 sum_front xs k m n squares sizes squares' sizes' s r q a b e g h p t =

@@ -28,10 +28,10 @@ pub record Stepped (s : BinSums) (x y : Pair) (r : BinSums) : Type 0 where
 abbrev pub step_at : List Float → ℕ → Pair
 step_at xs k = product binary32 (pair_at xs (k + 1)) (conjugate (pair_at xs k))
 
--- the squares and the squared sizes of n products, from product k on, stand first in two lists
-pub record TermsPut (xs : List Float) (k n : ℕ) (squares sizes : List Float) : Type 0 where
-  pub squared : (i : ℕ) → i < n → pair_at squares i ≡ square_of (step_at xs (k + i))
-  pub sized : (i : ℕ) → i < n → get_or sizes i nan ≡ size_of (step_at xs (k + i))
+-- the squares and the squared sizes of the first n products stand first in two lists
+pub record TermsPut (xs : List Float) (n : ℕ) (squares sizes : List Float) : Type 0 where
+  pub squared : (i : ℕ) → i < n → pair_at squares i ≡ square_of (step_at xs i)
+  pub sized : (i : ℕ) → i < n → get_or sizes i nan ≡ size_of (step_at xs i)
 
 -- n squares and squared sizes more
 pub record TermsAdded (s : BinSums) (squares sizes : List Float) (n : ℕ) (r : BinSums) : Type 0 where

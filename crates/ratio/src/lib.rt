@@ -71,19 +71,18 @@ impl BinSums {
     }
 }
 
-// Stores the squares and the squared sizes of as many products as there is room for, the first of them of
-// pair `from` and the one behind it. No product waits for another, so the compiler works on four at once;
-// sums would wait.
-fn put_terms(pairs: &[f32], from: usize, squares: &mut [f32], sizes: &mut [f32])
-    requires { (2 * (from + length sizes.old + 1) ≤ length pairs.now) × (2 * length sizes.old ≤ length squares.old) }
-    ensures { TermsPut pairs.now from (length sizes.old) squares.new sizes.new }
+// Stores the squares and the squared sizes of as many products as there is room for, each of a pair and the
+// one behind it. No product waits for another, so the compiler works on four at once; sums would wait.
+fn put_terms(pairs: &[f32], squares: &mut [f32], sizes: &mut [f32])
+    requires { (2 * (length sizes.old + 1) ≤ length pairs.now) × (2 * length sizes.old ≤ length squares.old) }
+    ensures { TermsPut pairs.now (length sizes.old) squares.new sizes.new }
 {
-    for i in 0..sizes.len() {
-        let y = spectra::pair_at(pairs, from + i);
-        let x = spectra::pair_at(pairs, from + i + 1);
+    for (i, size) in sizes.iter_mut().enumerate() {
+        let y = spectra::pair_at(pairs, i);
+        let x = spectra::pair_at(pairs, i + 1);
         let p = x * y.conj();
         spectra::put_pair(squares, i, p * p);
-        sizes[i] = p.norm_sqr();
+        *size = p.norm_sqr();
     }
 }
 
@@ -98,14 +97,15 @@ fn front_sums(pairs: &[f32], n: usize) -> BinSums
     let mut sums = BinSums::zero();
     for from in (0..n).step_by(16) {
         let m = (n - from).min(16);
-        put_terms(pairs, from, &mut squares[..2 * m], &mut sizes[..m]);
+        put_terms(&pairs[2 * from..], &mut squares[..2 * m], &mut sizes[..m]);
         sums = sums.add_terms(&squares[..2 * m], &sizes[..m]);
     }
     sums
 }
 
 // The sums of all products of a bin's pairs. Up to three that are left over from the fours are added one
-// by one: through the arrays they took longer.
+// by one. With these in the arrays too, shift and kinds of 8 spectra took two thirds to four fifths longer
+// (docs/BENCHMARKS.md), and no operation may take longer than before.
 fn bin_sums(pairs: &[f32]) -> BinSums
     requires { 2 ≤ length pairs.now }
     ensures { Summed (bin_pairs 1 pairs.now 0) result }
@@ -163,14 +163,12 @@ fn spread_two(spectra: &[f32], at: usize, next: usize, bins: BinBlock, t: usize,
 {
     let one = &spectra[2 * at..];
     let two = &spectra[2 * next..];
-    // The place runs along: measured with a product in each turn, 512 spectra took 7 in 100 longer.
-    let mut to = t;
     for i in 0..bins.width {
+        let to = i * bins.slot + t;
         let x = spectra::pair_at(one, i);
         let y = spectra::pair_at(two, i);
         spectra::put_pair(block, to, x);
         spectra::put_pair(block, to + 1, y);
-        to += bins.slot;
     }
 }
 
@@ -211,9 +209,9 @@ fn write_block(block: &[f32], bins: BinBlock, out: &mut [f32])
     ensures { out.new
         ≡ sets out.old bins.first (up_to (λ i. ratio_of (column block.now 1 (i * bins.slot) bins.count)) bins.width) }
 {
-    let first = bins.first;
-    for i in 0..bins.width {
-        out[first + i] = ratio_in(block, bins, i);
+    let end = bins.first + bins.width;
+    for (i, ratio) in out[bins.first..end].iter_mut().enumerate() {
+        *ratio = ratio_in(block, bins, i);
     }
 }
 

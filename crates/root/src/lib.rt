@@ -141,7 +141,8 @@ fn root_of_units(m: u64, k: u64) -> u64
     Operand::new(m, k).root_bits(537 + k / 2)
 }
 
-// The bits of the root of the number above zero whose bits are b.
+// The bits of the root of the number above zero whose bits are b. `angle` takes bits apart by the same few
+// lines (`Unsigned::size`, which says why there are two).
 fn positive_root(b: u64) -> u64
     requires { (0 < b) × (b < 9218868437227405312) }
     ensures { (of_bits binary64 result ≡ root_of (of_bits binary64 b)) × (result < 9218868437227405312) }
@@ -224,8 +225,7 @@ fn guessed_bits(b: u64) -> Option<u32>
 pub fn narrow_root(x: f64) -> f32
     ensures { result ≡ narrow_of (root_of x) }
 {
-    // Not `is_nan`, which costs the pilot phase a twentieth of its time.
-    if x == x {
+    if !x.is_nan() {
         let b = x.to_bits();
         if 0x3030_0000_0000_0000 <= b && b < 0x4ff0_0000_0000_0000 {
             if let Some(r) = guessed_bits(b) {

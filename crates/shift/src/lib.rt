@@ -26,6 +26,8 @@ pub struct Best {
 }
 
 // Stores the bins of a segment's AC1 carriers from index `at` on, and gives the index behind.
+// The whole buffer and an index: the rest of the buffer as a slice is no plainer, since `put_pattern` lends
+// what was stored, and so needs the index.
 fn put_segment(mode: Mode, seg: Segment, out: &mut [u32], at: usize) -> usize
     requires { Room seg.number out.old at }
     ensures { Put (segment_bins mode seg.number) out.old at result out.new }
@@ -61,13 +63,9 @@ fn pattern_sum(bins: &[u32], ratios: &[f32], up: usize) -> f32
     ensures { result ≡ sum_up bins.now ratios.now up }
 {
     let n = ratios.len();
-    let mut sum = ieee::NEGATIVE_ZERO;
-    for bin in bins {
-        let moved = ofdm::moved_up(FftBin(*bin as usize), up, n);
-        let at = moved.0;
-        sum = sum + ratios[at];
-    }
-    sum
+    bins.iter()
+        .map(|bin| ratios[ofdm::moved_up(FftBin(*bin as usize), up, n).0])
+        .sum()
 }
 
 // The best of the shifts from -bound to bound: only a greater sum replaces. A shift is brought
@@ -91,6 +89,7 @@ fn search(bins: &[u32], ratios: &[f32], bound: usize) -> Best
 }
 
 // The shift of spectra of n bins each, by their ratios, which are written to `ratios` and stay there.
+// The mode is a number, since a C host lends it as one.
 //
 // Refused by 1 for a bad mode, 5 unless whole spectra, at most 1,024, 6 if none, 7 unless n ratios, 8
 // for a bound above n/2.

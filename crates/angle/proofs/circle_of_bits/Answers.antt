@@ -41,6 +41,6 @@ returns c =
     let l = leb 9223372036854775808 s.x in
     let r = leb 9223372036854775808 s.y in
     c.mirror_of-2.ensures
-    ∙ ap (mirror r 65536) (c.mirror_of.ensures ∙ ap (mirror l 32768) c.quarter_of.ensures.0)
+    ∙ ap (mirror r 65536) (c.mirror_of.ensures ∙ ap (mirror l 32768) c.quarter_of-quarter.ensures.0)
     ∙ sym (around_some l (size_of a) r (size_of b) (size_some a b (omega arith)))
     ∙ sym (bits_circle s.x s.y (omega arith) (omega arith) (omega arith) (omega arith))

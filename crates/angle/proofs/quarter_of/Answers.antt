@@ -16,21 +16,21 @@ flat a b q h e = subst (λ (z : ℕ). z ≤ 4194304) (sym e) (slope_most (size_o
 pub octant_of-requires : goal.octant_of-requires
 octant_of-requires c =
     let s = c.args in
-    flat s.a s.b c.slope_of.result (omega arith) c.slope_of.ensures
+    flat s.a.bits s.b.bits c.slope_of.result (omega arith) c.slope_of.ensures
 
 pub returns-then-b-a : goal.returns-then-b-a
 returns-then-b-a c =
     let s = c.args in
-    let low = quarter_low (size_of s.a) (size_of s.b) (size_le s.b s.a (omega arith)) in
+    let low = quarter_low (size_of s.a.bits) (size_of s.b.bits) (size_le s.b.bits s.a.bits (omega arith)) in
     (c.octant_of.ensures.0 ∙ ap octant c.slope_of.ensures ∙ sym low, omega arith)
 
 pub octant_of-requires-2 : goal.octant_of-requires-2
 octant_of-requires-2 c =
     let s = c.args in
-    flat s.b s.a c.slope_of-2.result (omega arith) c.slope_of-2.ensures
+    flat s.b.bits s.a.bits c.slope_of-2.result (omega arith) c.slope_of-2.ensures
 
 pub returns : goal.returns
 returns c =
     let s = c.args in
-    let high = quarter_high (size_of s.a) (size_of s.b) (size_less s.a s.b (omega arith)) in
+    let high = quarter_high (size_of s.a.bits) (size_of s.b.bits) (size_less s.a.bits s.b.bits (omega arith)) in
     (ap (λ (z : ℕ). 16384 - z) (c.octant_of-2.ensures.0 ∙ ap octant c.slope_of-2.ensures) ∙ sym high, omega arith)

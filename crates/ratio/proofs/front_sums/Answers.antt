@@ -1,7 +1,7 @@
 -- `ratio::front_sums` meets its contract: sixteen products at a time, in their order.
 -- Assumes nothing.
 use mathlib.Core.Path.{refl}
-use Rattle.ratio.proofs.Terms.{sum_begin, sum_front}
+use Rattle.ratio.proofs.Terms.{sum_begin, from_pair, sum_front}
 use native.Mathlib.Omega.{arith}
 use Rattle.std.proofs.Common.{rules}
 use Rattle.ratio.proofs.front_sums.Goals as goal
@@ -17,11 +17,12 @@ loop-from-preserved c =
       search (rules, l.invariant.1),
       search (rules, l.invariant.2),
       sum_front _ _ _ _ _ _ _ _ _ _ (omega arith) (omega arith) (omega arith) put.auto.squares put.auto.sizes
-          l.invariant.3 put.ensures c.add_terms-sums.ensures,
+          l.invariant.3 (rw (from_pair c.args.pairs.now l.from) at put.ensures) c.add_terms-sums.ensures,
     )
 
 pub returns-2 : goal.returns-2
 returns-2 c =
     let l = c.loop-from in
     let put = c.put_terms in
-    sum_front _ _ _ _ _ _ _ _ _ _ (omega arith) (omega arith) (omega arith) put.auto.squares put.auto.sizes l.invariant.3 put.ensures c.add_terms-sums.ensures
+    sum_front _ _ _ _ _ _ _ _ _ _ (omega arith) (omega arith) (omega arith) put.auto.squares put.auto.sizes l.invariant.3
+    (rw (from_pair c.args.pairs.now l.from) at put.ensures) c.add_terms-sums.ensures

@@ -1,6 +1,6 @@
 -- `ratio::spread_two` meets its contract: slot by slot.
 -- Assumes nothing.
-use Prim.Native.Nat.{◌+◌, ◌*◌}
+use Prim.Native.Nat.{◌*◌}
 use mathlib.Core.Path.{◌≡◌}
 use lib.ListN.{drop}
 use Rattle.ratio.specs.Inner.{Spread}
@@ -10,5 +10,4 @@ abbrev pub invariant-loop-i : goal.invariant-loop-i
 invariant-loop-i l =
     (l.one ≡ drop (2 * l.at) l.spectra)
     × (l.two ≡ drop (2 * l.next) l.spectra)
-    × (l.to ≡ l.i * l.bins.slot + l.t)
     × Spread l.spectra l.at l.next l.i l.bins.slot l.t l.initial.block l.block
