@@ -53,16 +53,13 @@ pub fn window_at(sums: &[f64], ng: usize, p: usize, len: usize, d: usize) -> Win
     let mut re = 0.0f64;
     let mut im = 0.0f64;
     let mut energy = 0.0f64;
-    // The start runs along: with `step_by` the guess took 1 to 8 in 100 longer, and with a product in each
-    // turn 2. Its bar is the Rust's time, and it takes 1.27 of that as it is (docs/BENCHMARKS.md).
-    let mut a = d;
     for s in 0..count {
+        let a = d + s * p;
         let low = 3 * a;
         let high = 3 * (a + ng);
         re += sums[high] - sums[low];
         im += sums[high + 1] - sums[low + 1];
         energy += sums[high + 2] - sums[low + 2];
-        a += p;
     }
     Window {
         correlation: C64::new(re, im),

@@ -105,7 +105,7 @@ fn front_sums(pairs: &[f32], n: usize) -> BinSums
 
 // The sums of all products of a bin's pairs. Up to three that are left over from the fours are added one
 // by one. With these in the arrays too, shift and kinds of 8 spectra took two thirds to four fifths longer
-// (docs/BENCHMARKS.md), and no operation may take longer than before.
+// (docs/DECISIONS.md), and no operation may take longer than before.
 fn bin_sums(pairs: &[f32]) -> BinSums
     requires { 2 ≤ length pairs.now }
     ensures { Summed (bin_pairs 1 pairs.now 0) result }
