@@ -4,16 +4,23 @@ use Prim.Native.Nat.{ℕ, ◌+◌, ◌*◌, ◌≤◌, ◌<◌}
 use mathlib.Core.List.{List}
 use mathlib.Core.Path.{◌≡◌, refl}
 use native.Mathlib.Numerals.{add-one}
+use native.Mathlib.Omega.{arith}
 use lib.Ieee.{Float, binary32, add}
 use lib.ListN.{length, get_or, drop, drop_of_length-le}
 use lib.Seq.{drop-cons}
 use Rattle.ieee.specs.Sums.{total}
 use Rattle.params.specs.declared.Mode.{Mode}
 use Rattle.params.specs.Params.{carriers_per_segment, total_carriers}
+use Rattle.ofdm.specs.Laws.{segment_ends}
 use Rattle.complex.specs.Complex.{Pair, product, conjugate}
 use Rattle.spectra.specs.Spectra.{pair_at}
 use Rattle.tmcc.specs.Tmcc.{soft_term}
-use Rattle.tmcc.specs.Inner.{terms_at, added_to}
+use Rattle.tmcc.specs.Inner.{Addable, terms_at, added_to}
+
+-- the carrier at a place of the segment lies in the band
+pub in_band : {mode : Mode} {place : ℕ} {places : List ℕ} {n : ℕ} → Addable mode place places n → (i k : ℕ) → i < length places
+    → k ≡ place * carriers_per_segment mode + get_or places i 0 → k < total_carriers mode
+in_band {mode} {place} h i k l e = omega (arith, segment_ends mode place h.in_band, h.in_segment i l)
 
 module _ (start : Float) (mode : Mode) (place : ℕ) (xs : List Float) (places : List ℕ) where
   -- with the terms from place i on, sum makes the whole
