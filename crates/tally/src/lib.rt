@@ -1,8 +1,8 @@
 // A count of entries that were compared and of those that differ, which the replay programs keep.
 #![tactic(auto)]
 
-ghost use Rattle.std.specs.Prelude.{◌+◌, cond, ◌≡◌};
-ghost use Rattle.tally.specs.Tally.{capped, Counted};
+ghost use Rattle.std.specs.Prelude.{◌+◌, cond, ◌≡◌, Some};
+ghost use Rattle.tally.specs.Tally.{capped, Counted, tally_text};
 
 use std::fmt;
 
@@ -60,6 +60,8 @@ impl Tally {
 
 // As `39 compared, 0 differ`.
 impl fmt::Display for Tally {
+    ghost output = { λ t. Some (tally_text t) };
+
     fn fmt<W: fmt::Write>(&self, f: &mut fmt::Formatter<W>) -> fmt::Result {
         write!(f, "{} compared, {} differ", self.compared, self.differ)
     }
