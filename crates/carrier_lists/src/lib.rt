@@ -17,6 +17,7 @@ use params::{Mode, Phase, Refusal};
 
 // Stores, from index `at` of `out` on, the carriers whose role byte lies from low to high, where
 // roles[i] is that of the i-th carrier from the first on. Hands back the index behind the last.
+// Roles and `out` go together from here on, and a struct of both would be made for each call alone.
 // Two bytes: a RangeInclusive in their place is no plainer, the contract has to say that it is not used up.
 fn collect(roles: &[u8], low: u8, high: u8, first: BandCarrier, out: &mut [u32], at: usize) -> usize
     requires { Room roles.now low high first.0 out.old at }

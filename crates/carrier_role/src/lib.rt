@@ -48,7 +48,8 @@ fn table_role(mode: Mode, seg: Segment, kind: SegmentKind, p: SegmentPlace) -> C
 }
 
 // The role of a place of a segment in a symbol with the given SP phase (of no effect in a
-// differential segment). Mode, segment and kind name the tables' rows, as they do in `tables`.
+// differential segment). Mode, segment and kind name the tables' rows, as they do in `tables`. The pilots'
+// two lines stand in `frame::pilot_role` too: one public function is no plainer, its `Data` would mean no pilot.
 #[tactic(auto, unfolding(frame::specs::Roles::place_role))]
 fn place_role(
     mode: Mode,

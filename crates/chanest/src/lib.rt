@@ -80,6 +80,8 @@ struct Capture<'a> {
     ghost captured: { Captured layout.mode win spectra.now signs.now },
 }
 
+// The grid's length is asked for by each method: in a struct with the grid, each clause would have to say that
+// it is the grid that was lent.
 impl Capture<'_> {
     // Writes point i, whose carrier has its pilot at the times.
     #[tactic(auto, using(prbs::specs::Buffered::signs_length))]

@@ -204,7 +204,7 @@ pub fn sillurwy_detect_kinds(
     match segment_kinds::detect_kinds(mode, spectra, ratios) {
         Ok(found) => {
             *kinds = codes_of(found.kinds);
-            let found_scores = found.scores; // tried without: the prover asks for a variable in the place of a struct's array
+            let found_scores = found.scores; // by a variable: handed on at once, the array of a struct got no proof
             *scores = found_scores;
             0
         }
@@ -230,7 +230,7 @@ pub fn sillurwy_detect_sp_phase(
 {
     match pilot_phase::detect_sp_phase(mode, kinds, spectra) {
         Ok(answer) => {
-            let votes = answer.counts; // tried without: the prover asks for a variable in the place of a struct's array
+            let votes = answer.counts; // by a variable: handed on at once, the array of a struct got no proof
             *counts = votes;
             *lead = answer.lead;
             match answer.phase {

@@ -1,6 +1,6 @@
 -- What a stored answer says: its numbers, and what an entry that was lent must be after the call.
 -- Definitions only.
-use Rattle.std.specs.Prelude.{ℕ, ◌+◌, ◌*◌, ◌≤◌, ◌≡◌, cond, List, eqb, ltb, Float, length, get_or, Result, Ok, Err, OnOk}
+use Rattle.std.specs.Prelude.{ℕ, ◌+◌, ◌*◌, ◌≤◌, ◌≡◌, cond, List, eqb, ltb, Float, length, get_or, Result, Ok, Err}
 use Rattle.replay.specs.declared.Cut.{Cut}
 use Rattle.std.specs.Float.{Format, binary32, binary64}
 use Rattle.std.specs.Float.Ieee.{is_nan, to_bits}
@@ -73,20 +73,3 @@ pub record Found (got : ℕ → ℕ) (n : ℕ) (t r : Tally) : Type 0 where
 abbrev pub Checked : (ℕ → ℕ) → ℕ → Tally → Result (Unit {0}) Cut → Tally → Type 0
 Checked got n t (Ok x) r = Found got n t r
 Checked got n t (Err cut) r = r ≡ t
-
--- what a call leaves of a count whose stored answer has n entries: all of them are compared, or where the
--- input is cut the first ones
-pub record Replayed (n : ℕ) (t : Tally) (read : Result (Unit {0}) Cut) (r : Tally) : Type 0 where
-  pub compared : ℕ
-  pub differ : ℕ
-  pub few : compared ≤ n
-  pub each : differ ≤ compared
-  pub whole : OnOk read (compared ≡ n)
-  pub counted : Counted t compared differ r
-
--- the same of a function that refuses nothing: a code that is not 0 is a difference, and then its value is
--- compared
-pub record ValueReplayed (code : ℕ) (value : ℕ) (t : Tally) (read : Result (Unit {0}) Cut) (r : Tally) : Type 0 where
-  pub told : Tally
-  pub expected : Counted t 0 (cond (eqb code 0) 0 1) told
-  pub checked : Checked (λ i. value) 1 told read r

@@ -27,20 +27,16 @@ impl From<io::Error> for Cut {
 // How many bytes a stored number has.
 #[derive(Clone, Copy, Debug, PartialEq, Eq)]
 pub enum Size {
-    One,
-    Four,
-    Eight,
+    One = 1,
+    Four = 4,
+    Eight = 8,
 }
 
 impl Size {
     fn bytes(self) -> usize
         ensures { result ≡ size_bytes self }
     {
-        match self {
-            Size::One => 1,
-            Size::Four => 4,
-            Size::Eight => 8,
-        }
+        self as usize
     }
 }
 
@@ -153,7 +149,7 @@ pub fn number_at(bytes: &[u8], at: usize) -> u16
     u16::from_le_bytes([bytes[at], bytes[at + 1]])
 }
 
-// The numbers of four and of eight bytes.
+// The number of four bytes that begins at an index.
 fn word_at(bytes: &[u8], at: usize) -> u32
     requires { at + 4 ≤ length bytes.now }
     ensures { result ≡ word_at bytes.now at }
@@ -161,7 +157,7 @@ fn word_at(bytes: &[u8], at: usize) -> u32
     u32::from_le_bytes([bytes[at], bytes[at + 1], bytes[at + 2], bytes[at + 3]])
 }
 
-// Of two of four bytes: eight entries by their indices are no plainer.
+// The number of eight bytes, from two of four: to name all eight entries by their indices is no plainer.
 fn long_at(bytes: &[u8], at: usize) -> u64
     requires { at + 8 ≤ length bytes.now }
     ensures { result ≡ long_at bytes.now at }
@@ -224,6 +220,16 @@ fn compare<T: Entry>(got: &[T], stored: &[u8], owed: Owed, tally: Tally) -> Tall
     for (i, x) in got.iter().enumerate() {
         t.entry(x.bits() == owed.entry(stored, i));
     }
+    t
+}
+
+// Compares a number with the one that it must be.
+fn compare_one<T: Entry>(got: T, stored: &[u8], owed: Owed, tally: Tally) -> Tally
+    requires { Holds stored.now owed }
+    ensures { Compared (λ i. T.bits_of got) stored.now owed 1 tally result }
+{
+    let mut t = tally;
+    t.entry(got.bits() == owed.entry(stored, 0));
     t
 }
 
@@ -371,13 +377,14 @@ impl Answers {
         Ok(())
     }
 
-    // The same of a single number. By itself, since an array of one would ask more of `T`.
+    // The same of a single number. No list of one entry, since an array of `T` would ask each caller that
+    // its size fits in memory.
     pub fn check<T: Entry>(&mut self, got: T) -> Result<(), Cut>
         ensures { Checked (λ i. T.bits_of got) 1 self.old.tally result self.new.tally }
     {
         let mut room = [0u8; 65536];
         let owed = self.read_owed::<T>(&mut room, 1)?;
-        self.tally.entry(got.bits() == owed.entry(&room, 0));
+        self.tally = compare_one(got, &room, owed, self.tally);
         Ok(())
     }
 }

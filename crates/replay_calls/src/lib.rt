@@ -45,7 +45,14 @@ pub fn check_record(answers: &mut Answers, head: &[u8; HEAD]) -> Result<(), Cut>
     check_call(answers, head, lists)
 }
 
-// The functions of floats are lent nothing, so what a head says of that has no meaning there.
+// The code of a function that refuses nothing is 0: a stored one that is not is a difference.
+fn none_refused(answers: &mut Answers, code: u8) -> &mut Answers {
+    answers.tally.expect(code == 0);
+    answers
+}
+
+// The functions of floats are lent nothing, so what a head says of that has no meaning there. Answers and
+// call go through all the others together: a struct of both would be made for that alone.
 fn check_call(answers: &mut Answers, head: &[u8; HEAD], lists: Lists<'_>) -> Result<(), Cut> {
     let code = head[1];
     let call = Call::of(head).within_room();
@@ -68,14 +75,14 @@ fn check_call(answers: &mut Answers, head: &[u8; HEAD], lists: Lists<'_>) -> Res
             acquisition::detect_sp_phase(answers, call?, lists.bytes, lists.floats)
         }
         Operation::EstimateGrid => grid::estimate_grid(answers, call?, lists.bytes, lists.floats),
-        Operation::Root => floats::root(answers, code, lists.a),
-        Operation::Narrow => floats::narrow(answers, code, lists.a),
-        Operation::Norm32 => floats::norm32(answers, code, lists.floats),
-        Operation::Norm64 => floats::norm64(answers, code, lists.a, lists.b),
+        Operation::Root => floats::root(none_refused(answers, code), lists.a),
+        Operation::Narrow => floats::narrow(none_refused(answers, code), lists.a),
+        Operation::Norm32 => floats::norm32(none_refused(answers, code), lists.floats),
+        Operation::Norm64 => floats::norm64(none_refused(answers, code), lists.a, lists.b),
         Operation::FrameStart => acquisition::frame_start(answers, call?, lists.floats),
         Operation::BinRatio => acquisition::bin_ratio(answers, call?, lists.floats),
         Operation::CarrierRole => layout::carrier_role(answers, call?, lists.bytes),
-        Operation::Angle => floats::angle(answers, code, lists.a, lists.b),
-        Operation::CfoFrac => floats::cfo_frac(answers, code, lists.a, lists.b),
+        Operation::Angle => floats::angle(none_refused(answers, code), lists.a, lists.b),
+        Operation::CfoFrac => floats::cfo_frac(none_refused(answers, code), lists.a, lists.b),
     }
 }

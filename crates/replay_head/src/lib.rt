@@ -109,8 +109,8 @@ impl Call {
         }
     }
 
-    // The same, where there is room for what it lends. Beside `lend`, since a call that is lent no list
-    // makes no sense either where its head tells more entries.
+    // The same, where there is room for what it lends. `lend` asks for that too, but a call that is lent
+    // no list never comes to it, and a head that tells more entries makes no sense there either.
     pub fn within_room(self) -> Result<Call, Cut>
         ensures { result ≡ within_room self }
     {

@@ -26,8 +26,8 @@ pub struct Best {
 }
 
 // Stores the bins of a segment's AC1 carriers from index `at` on, and gives the index behind.
-// The whole buffer and an index: the rest of the buffer as a slice is no plainer, since `put_pattern` lends
-// what was stored, and so needs the index.
+// The whole buffer and an index: the rest of it as a slice is no plainer, since the caller would add up how
+// much was stored, to cut the next slice and to lend the whole.
 fn put_segment(mode: Mode, seg: Segment, out: &mut [u32], at: usize) -> usize
     requires { Room seg.number out.old at }
     ensures { Put (segment_bins mode seg.number) out.old at result out.new }

@@ -17,10 +17,7 @@ impl Tally {
     pub fn new() -> Tally
         ensures { (result.compared ≡ 0) × (result.differ ≡ 0) }
     {
-        Tally {
-            compared: 0,
-            differ: 0,
-        }
+        Tally::default()
     }
 
     // One more entry, which is the same on both sides or not.
