@@ -50,7 +50,7 @@ fn part_of(name: &str) -> String {
 
 /// What a function has, where, and what is found there; the last may be one of several. PART stands for
 /// the part that the function belongs to.
-const PLACES: [(&str, &str, &str); 13] = [
+const PLACES: [(&str, &str, &str); 14] = [
     ("a wrapper", "host/src", "ffi::NAME("),
     ("a line of the modules", "host/src/lib.rs", "::NAME)"),
     ("a case", "host/tests/stored.rs", "::NAME( or ::NAME_lent("),
@@ -69,7 +69,8 @@ const PLACES: [(&str, &str, &str); 13] = [
         "oracle/tests/mistakes/main.rs",
         "\nmod NAME;",
     ),
-    ("a line", "crates/replay_PART/src/lib.rt", "sillurwy_NAME("),
+    ("a function", "crates/replay_calls/src/PART.rt", "sillurwy_NAME("),
+    ("a line", "crates/replay_calls/src/lib.rt", "::NAME("),
     ("a word", "README.md", "`sillurwy_NAME`"),
     ("its stored calls", "oracle/README.md", "`NAME`"),
 ];
