@@ -44,7 +44,9 @@ fn count(roles: &[u8], low: u8, high: u8) -> usize
         .count()
 }
 
-// Stores the data carriers of each segment, in segment-number order, of a band with these roles.
+// Stores the data carriers of each segment, in segment-number order, of a band with these roles. `frame` and
+// `prbs` go over the segments' carriers too: a function that gives the first of them and the one behind the last
+// is no plainer than the two lines that work them out.
 fn collect_data(mode: Mode, roles: &[u8], out: &mut [u32])
     requires { DataRoom mode roles.now out.old }
     ensures { out.new ≡ joined (data_in mode roles.now) (range 13) }

@@ -156,7 +156,8 @@ pub struct BinBlock {
 
 // Copies the pairs of two symbols, which begin at `at` and `next`, to the pairs t and t + 1 of the
 // slots. They come to lie side by side, so that the compiler makes one store of two; one index serves
-// both symbols, since each is a slice of its own.
+// both symbols, since each is a slice of its own. The spectra and where two of them begin: two slices are no
+// plainer, since the contract speaks of the spectra that both are cut from.
 fn spread_two(spectra: &[f32], at: usize, next: usize, bins: BinBlock, t: usize, block: &mut [f32])
     requires { Spreadable at next bins.width bins.slot t (length spectra.now) (length block.old) }
     ensures { Spread spectra.now at next bins.width bins.slot t block.old block.new }

@@ -47,6 +47,7 @@ impl SegmentRatios<'_> {
         ensures { result ≡ mean_of (ratio_at self.now.mode self.now.at.0 self.now.ratios.now)
             (kept self.now.tmcc.now self.now.ac1.now (0 ∷ (ac2.now ++ differential.now))) }
     {
+        // One walk gives both: by `sum` and `count` there would be two.
         let mut sum = ieee::NEGATIVE_ZERO;
         let mut count: usize = 0;
         for p in [0].iter().chain(ac2).chain(differential) {

@@ -58,7 +58,7 @@ pub struct Fed {
 
 // Takes the bytes of the input from an index on and stores the answer to each line that ends, until
 // the input is used up or less room is left than the longest answer wants. An index: a slice of the
-// rest is no plainer, since each caller would cut it anew where `used` says.
+// rest is no plainer, since each caller would cut it anew where `used` says; and so the loop goes over indices.
 pub fn feed(line: Line, input: &[u8], from: usize, out: &mut [u8], at: usize) -> Fed
     ensures { Feeds line input.now from out.old at result out.new }
 {
