@@ -1,6 +1,6 @@
 -- The cases of what a read returned.
 -- Assumes nothing.
-use Rattle.std.specs.Prelude.{ℕ, ◌≤◌, zero, suc, List, Option, Some, None, Result, Ok, Err, ◌≡◌, refl, IfOk, IfSome}
+use Rattle.std.specs.Prelude.{ℕ, ◌<◌, ◌≤◌, zero, suc, List, Option, Some, None, Result, Ok, Err, ◌≡◌, refl, IfOk, IfSome}
 use Rattle.std.proofs.Common.{arith}
 use Rattle.std.specs.declared.io.Error.{Error}
 use Rattle.std.specs.Io.KnownBytes.{ReadConsumes}
@@ -26,11 +26,11 @@ more_within (Err e) n k m q = absurd (cc)
 more_within (Ok zero) n k m q = absurd (cc)
 more_within (Ok (suc i)) n k m q = let same : suc i ≡ k = cc in omega (arith, m)
 
-pub turn_within : (got : Result ℕ Error) (n : ℕ) → Moved n got → IfOk (read_told got) (λ found. IfSome found (λ k. k ≤ n))
+pub turn_within : (got : Result ℕ Error) (n : ℕ) → Moved n got → IfOk (read_told got) (λ found. IfSome found (λ k. (0 < k) × (k ≤ n)))
 unfolding read_told
 turn_within (Err e) n m = tt
 turn_within (Ok zero) n m = tt
-turn_within (Ok (suc i)) n m = m
+turn_within (Ok (suc i)) n m = (omega arith, m)
 
 pub turn_consumes : (got : Result ℕ Error) (old new : Option (List ℕ)) (buffer : List ℕ) → ReadConsumes old new got buffer
     → TurnConsumes old new (read_told got) buffer

@@ -2,7 +2,7 @@
 // failed read for the end would answer half a line as a whole one.
 #![tactic(auto)]
 
-ghost use Rattle.std.specs.Prelude.{◌≡◌, ◌≤◌, length, IfOk, IfSome};
+ghost use Rattle.std.specs.Prelude.{◌≡◌, ◌<◌, ◌≤◌, length, IfOk, IfSome};
 ghost use Rattle.reading.specs.Read.{read_told, TurnConsumes};
 
 use std::io;
@@ -23,7 +23,7 @@ pub fn told(got: io::Result<usize>) -> io::Result<Option<usize>>
 
 // Reads once: so many bytes stand at the start of the buffer, or the input has ended.
 pub fn read<R: Read>(input: &mut R, buffer: &mut [u8]) -> io::Result<Option<usize>>
-    ensures within { IfOk result (λ found. IfSome found (λ n. n ≤ length buffer.new)) }
+    ensures within { IfOk result (λ found. IfSome found (λ n. (0 < n) × (n ≤ length buffer.new))) }
     ensures bytes { TurnConsumes (R.remaining input.old) (R.remaining input.new) result buffer.new }
 {
     told(input.read(buffer))
