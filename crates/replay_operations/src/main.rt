@@ -17,7 +17,7 @@ struct Count {
 }
 
 impl Count {
-    // A record of which this was read.
+    // The count of one record, which was read to its end or cut.
     fn of(answers: Answers, read: Result<(), Cut>) -> Count {
         Count {
             calls: u64::from(read.is_ok()),
