@@ -6,7 +6,8 @@ use Rattle.std.proofs.Common.{sym, ap, ◌∙◌, subst, inl, inr, le_trans, le_
 use Rattle.std.proofs.Common.{mul-le-mul_right, le-div_iff_mul-le, div-lt_iff_lt-mul, mod-eq_of_lt, arith, leb→le, eqb→eq, lit<, lit≤, pow-add}
 use Rattle.std.proofs.Common.{pow_pos, pow_mono, shl_lt}
 use Prim.Native.Nat.{ℕ, zero, suc, ◌+◌, ◌-◌, ◌*◌, ◌/◌, ◌%◌, ◌^◌, ◌≤◌, ◌<◌, compare, Ordering}
-use Rattle.std.proofs.Math.Nat.{div-eq_of_lt}
+use Rattle.std.proofs.Math.Nat.{div-eq_of_lt, div-eq_of_lt-le, mul-add-div_right, mod-lt}
+use Rattle.std.proofs.lemmas.Nat.{div-add-mod'}
 use Rattle.std.proofs.Math.Dec.{is_le, compare_is_eq, nleb→lt}
 use Rattle.std.specs.Float.{inf, Format, binary32, binary64}
 use Rattle.std.specs.Float.Ieee.{prec, low, size, nearest, units, round, of_bits}
@@ -362,15 +363,40 @@ narrow_normal b lo hi =
             (inf_bits s ∙ sym (over_top s))
         carried (inr v) = encode_carry binary32 s K (field' K v)
 
--- ---- m / 2 ^ 29 rounded with no branch
-pub closest_29 : (m : ℕ) → (m + 268435455 + m / 536870912 % 2) / 536870912 ≡ closest m 536870912
-closest_29 m =
-    go (compare (m % 536870912 * 2) 536870912) (leb→le (m % 536870912 * 2) 536870912) (nleb→lt (m % 536870912 * 2) 536870912)
-    (eqb→eq (m % 536870912 * 2) 536870912) eq→eqb
+-- ---- m / p rounded with no branch, for an even p: less than half of p, and the quotient's last bit, carry into the quotient where m is rounded up
+pub closest_even : (m p : ℕ) → 0 < p → p % 2 ≡ 0 → (m + (p / 2 - 1) + m / p % 2) / p ≡ closest m p
+closest_even m p P even =
+    ap (λ (x : ℕ). x / p) (parts (m / p * p) (m % p) (p / 2 - 1) (m / p % 2) (div-add-mod' m p))
+    ∙ mul-add-div_right P (m / p) (m % p + (p / 2 - 1) + m / p % 2)
+    ∙ go (compare (m % p * 2) p) (leb→le (m % p * 2) p) (nleb→lt (m % p * 2) p) (eqb→eq (m % p * 2) p) eq→eqb (mod-lt m P)
   where
-    go : (o : Ordering) → (T (is_le o) → m % 536870912 * 2 ≤ 536870912) → (T (not (is_le o)) → 536870912 < m % 536870912 * 2)
-        → (T (compare_is_eq o) → m % 536870912 * 2 ≡ 536870912) → (m % 536870912 * 2 ≡ 536870912 → T (compare_is_eq o))
-        → (m + 268435455 + m / 536870912 % 2) / 536870912 ≡ nearest (m / 536870912) o
-    go Ordering.lt h k e n = let a = h tt in let b : m % 536870912 * 2 ≡ 536870912 → ⊥ = n in omega arith
-    go Ordering.eq h k e n = let a = e tt in omega arith
-    go Ordering.gt h k e n = let a = k tt in omega arith
+    parts : (a r h b : ℕ) → a + r ≡ m → m + h + b ≡ a + (r + h + b)
+    parts a r h b e = omega arith
+
+    once : (k : ℕ) → p ≤ k → k < p + p → k / p ≡ 1
+    once k l u = div-eq_of_lt-le p (omega arith) (omega arith)
+
+    kept : (w k : ℕ) → k < p → w + k / p ≡ w
+    kept w k h = let e = div-eq_of_lt h in omega arith
+
+    up : (w k : ℕ) → p ≤ k → k < p + p → w + k / p ≡ suc w
+    up w k l u = let e = once k l u in omega arith
+
+    low_bit : (w : ℕ) → w % 2 ≤ 1
+    low_bit w = omega arith
+
+    tie : (w r : ℕ) → r * 2 ≡ p → w + (r + (p / 2 - 1) + w % 2) / p ≡ w + w % 2
+    tie w r e = elim (eq-or-lt_of_le (low_bit w)) [
+      | inl odd ↦ up w (r + (p / 2 - 1) + w % 2) (omega arith) (omega arith) ∙ omega arith
+      | inr even ↦ kept w (r + (p / 2 - 1) + w % 2) (omega arith) ∙ omega arith
+    ]
+
+    go : (o : Ordering) → (T (is_le o) → m % p * 2 ≤ p) → (T (not (is_le o)) → p < m % p * 2) → (T (compare_is_eq o) → m % p * 2 ≡ p)
+        → (m % p * 2 ≡ p → T (compare_is_eq o)) → m % p < p
+        → m / p + (m % p + (p / 2 - 1) + m / p % 2) / p ≡ nearest (m / p) o
+    go Ordering.lt h k e n l = let a = h tt in let b : m % p * 2 ≡ p → ⊥ = n in kept (m / p) (m % p + (p / 2 - 1) + m / p % 2) (omega arith)
+    go Ordering.eq h k e n l = tie (m / p) (m % p) (e tt)
+    go Ordering.gt h k e n l = let a = k tt in up (m / p) (m % p + (p / 2 - 1) + m / p % 2) (omega arith) (omega arith)
+
+pub closest_29 : (m : ℕ) → (m + 268435455 + m / 536870912 % 2) / 536870912 ≡ closest m 536870912
+closest_29 m = closest_even m 536870912 (lit< tt) refl

@@ -3,7 +3,7 @@
 // on: signs and zeros, order, and gain by a power of two. The square root is `root`'s.
 #![tactic(auto)]
 
-ghost use Rattle.std.specs.Prelude.{◌≡◌, ◌^◌, ◌≤◌, ◌<◌};
+ghost use Rattle.std.specs.Prelude.{◌≡◌, ◌^◌, ◌%◌, ◌≤◌, ◌<◌};
 ghost use Rattle.std.specs.Float.Ieee.Nearest as Nearest;
 ghost use Rattle.ieee.specs.Narrow.{narrow_of};
 ghost use Rattle.ieee.specs.Inner.{Narrowed};
@@ -11,14 +11,14 @@ ghost use Rattle.ieee.specs.Inner.{Narrowed};
 // Where `sum::<f32>()` starts.
 pub const NEGATIVE_ZERO: f32 = -0.0;
 
-// m / p to the nearest whole number, a tie to the even one, with no branch: twice the rest is above p, or
-// it is p and the quotient is odd.
+// m / p to the nearest whole number, a tie to the even one, for an even p, with no branch: less than half of p, and the quotient's last bit,
+// carry into the quotient exactly where m is rounded up. For a power of two that is an addition and a shift.
+#[tactic(auto, using(crate::specs::Narrowing::closest_even))]
 fn closest(m: u64, p: u64) -> u64
-    requires { (0 < p) × (p < 9223372036854775808) × (m < 9007199254740992) }
+    requires { (0 < p) × (p % 2 ≡ 0) × (p < 9223372036854775808) × (m < 9007199254740992) }
     ensures { result ≡ Nearest.closest m p }
 {
-    let q = m / p;
-    q + u64::from(p < m % p * 2 + q % 2)
+    (m + (p / 2 - 1) + m / p % 2) / p
 }
 
 // The bits of the f32 nearest to the f64 whose bits are b, both without their sign. The digits that

@@ -5,7 +5,7 @@ use mathlib.Core.Path.{◌≡◌, sym, ap, ◌∙◌, subst}
 use Prim.Native.Nat.{ℕ, ◌+◌, ◌-◌, ◌*◌, ◌/◌, ◌%◌, ◌<◌, ◌≤◌}
 use native.Mathlib.Nat.{one-mul, mod-eq_of_lt}
 use native.Mathlib.Omega.{arith}
-use lib.Pow.{pow_pos, pow-lt}
+use lib.Pow.{pow_pos, pow-lt, pow-add}
 use lib.Ieee.Nearest.{closest}
 use Rattle.ieee.specs.Inner.{Narrowed}
 use Rattle.ieee.specs.Narrowing.{narrow_sub, narrow_normal}
@@ -24,11 +24,17 @@ normal_way b q e low high = subst (λ (q : ℕ). Narrowed b ((b / 45035996273704
 moved_up : (d : ℕ) → d < 64 → 1 * 2 ^ d % 18446744073709551616 ≡ 2 ^ d
 moved_up d h = ap (λ (x : ℕ). x % 18446744073709551616) (one-mul _) ∙ mod-eq_of_lt (pow-lt h)
 
+even_power : (d : ℕ) → 0 < d → 2 ^ d % 2 ≡ 0
+even_power d h = let e : 2 ^ d ≡ 2 * 2 ^ (d - 1) = ap (λ (x : ℕ). 2 ^ x) (parted d h) ∙ pow-add 2 1 (d - 1) in omega (arith, e)
+  where
+    parted : (d : ℕ) → 0 < d → d ≡ 1 + (d - 1)
+    parted d h = omega arith
+
 pub closest-requires : goal.closest-requires
 closest-requires c =
     let d = 926 - c.args.b / 4503599627370496 in
     let e : 1 * 2 ^ d % 18446744073709551616 ≡ 2 ^ d = moved_up d (omega arith) in
-    (rw e (pow_pos d), rw e (pow-lt {j = 63} (omega arith)), omega arith)
+    (rw e (pow_pos d), rw e (even_power d (omega arith)), rw e (pow-lt {j = 63} (omega arith)), omega arith)
 
 pub overflow_cast-result : goal.overflow_cast-result
 overflow_cast-result c =
