@@ -194,14 +194,14 @@ fn gather(spectra: &[f32], len: usize, bins: BinBlock, block: &mut [f32])
     }
 }
 
-// The ratio of bin i of the copy, whose pairs nothing refuses: they are as many as there are spectra.
+// The ratio of bin i of the copy. Nothing is refused, since a slot has 1 to 1,024 pairs of its bin.
 fn ratio_in(block: &[f32], bins: BinBlock, i: usize) -> f32
     requires { InBlock bins i (length block.now) }
     ensures { result ≡ ratio_of (column block.now 1 (i * bins.slot) bins.count) }
 {
     let from = 2 * (i * bins.slot);
     let to = from + 2 * bins.count;
-    bin_sums(&block[from..to]).ratio()
+    bin_ratio(&block[from..to]).unwrap_or(0.0)
 }
 
 // Stores the ratios of the bins of the copy, each at its bin.
