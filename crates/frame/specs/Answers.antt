@@ -1,10 +1,11 @@
 -- What the tests on the way to a return make of an operation's definition: for the role map here, and the lists above.
 -- Assumes nothing.
-use Rattle.std.specs.Prelude.{ℕ, ◌≤◌, ◌<◌, List, ◌≡◌, length, get_or, ltb, Option, Some, None}
+use Rattle.std.specs.Prelude.{ℕ, ◌≤◌, ◌<◌, List, ◌≡◌, length, get_or, map, ltb, Option, Some, None}
 use Rattle.std.proofs.Math.Bool.{false}
 use Rattle.std.proofs.Math.Path.{refl}
 use Rattle.std.proofs.Common.{sym, ap, ◌∙◌, arith, lit≤}
 use Rattle.std.proofs.Math.ListN.{get_or-map}
+use mathlib.Core.List.{map_congr_left}
 use borrow.Author.Tests.{eq-eqb, ne_eqb, lt-ltb, le-ltb}
 use Rattle.lists.specs.Refusals.{unless_most}
 use Rattle.params.specs.declared.Mode.{Mode}
@@ -14,6 +15,8 @@ use Rattle.params.specs.declared.SegmentKind.{SegmentKind}
 use Rattle.params.specs.declared.SegmentKind.TheVariants.{Coherent, Differential}
 use Rattle.params.specs.Params.{kind_code, kind_from, refusal_number, kind_codes}
 use Rattle.frame.specs.declared.FrameLayout.{FrameLayout}
+use Rattle.ofdm.specs.Band.{order}
+use Rattle.frame.specs.Roles.{ofdm_segment, wide}
 use Rattle.frame.specs.Operations.{are_kinds, symbol_tests, SymbolAnswer, symbol_code, symbol_leaves}
 use Rattle.frame.specs.Inner.{Accepted, RefusedLayout}
 
@@ -25,6 +28,13 @@ known_again Differential = refl
 pub kind_again : (kinds : List SegmentKind) (seg : ℕ) → get_or kinds seg Coherent ≡ kind_from (get_or (kind_codes kinds) seg 0)
 unfolding kind_codes
 kind_again kinds seg = known_again (get_or kinds seg Coherent) ∙ ap kind_from (sym (get_or-map kind_code kinds seg Coherent))
+
+-- ---- thirteen bytes, any of them, as a layout: each definition that reads kinds reads the same from the layout's codes as from the bytes
+pub code_again : (codes : List ℕ) (seg : ℕ) → kind_from (get_or (kind_codes (map kind_from codes)) seg 0) ≡ kind_from (get_or codes seg 0)
+code_again codes seg = sym (kind_again (map kind_from codes) seg) ∙ get_or-map kind_from codes seg 0
+
+pub wide_codes : (codes : List ℕ) → wide (kind_codes (map kind_from codes)) ≡ wide codes
+wide_codes codes = map_congr_left {l = order} (λ seg _. ap (ofdm_segment seg) (code_again codes seg))
 
 -- a layout that was refused: its mode is bad, or its mode is good and its kinds are not
 pub by_refusal : (kinds : List ℕ) (P : Option Mode → Refusal → Type 0) → P None BadMode → ((m : Mode) → are_kinds kinds ≡ false → P (Some m) BadKinds)

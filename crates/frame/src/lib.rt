@@ -181,10 +181,11 @@ impl FrameLayout {
     }
 
     // The layout of any thirteen bytes, each above 0 differential. What takes a layout answers for these as
-    // it does for kinds that `new` accepts.
+    // it does for kinds that `new` accepts: its band is that of the bytes.
     pub fn of_codes(mode: Mode, codes: [u8; 13]) -> FrameLayout
         ensures mode { result.mode ≡ mode }
         ensures kinds { result.kinds ≡ map kind_from codes }
+        ensures band { wide (kind_codes result.kinds) ≡ wide codes }
     {
         FrameLayout {
             mode,
