@@ -95,8 +95,8 @@ impl Capture<'_> {
     }
 
     // The points of a coherent segment, from its lowest on, each by its scattered pilots.
-    fn write_segment(&self, scattered: Scattered, from: GridPoint, out: &mut [f32])
-        requires { length out.old ≡ 2 * grid_points self.now.layout.mode × ScatteredTimes self.now.win scattered
+    fn write_segment(&self, scattered: &Scattered, from: GridPoint, out: &mut [f32])
+        requires { length out.old ≡ 2 * grid_points self.now.layout.mode × ScatteredTimes self.now.win scattered.now
             × (from.0 + segment_points self.now.layout.mode ≤ 13 * segment_points self.now.layout.mode) }
         ensures { Written (scattered_at self.now.layout.mode self.now.spectra.now self.now.win.current)
             from.0 (from.0 + segment_points self.now.layout.mode) out.old out.new }
@@ -122,7 +122,7 @@ impl Capture<'_> {
             let lowest = lowest_point(self.layout.mode, here);
             let coherent = is_coherent(self.layout, here);
             if coherent {
-                self.write_segment(scattered, lowest, out);
+                self.write_segment(&scattered, lowest, out);
             } else if below {
                 self.write_point(continual, lowest, out);
             }

@@ -223,10 +223,11 @@ pub fn continual_times(win: Window) -> Times
 }
 
 impl Scattered {
-    // The times of the carriers whose pilot was sent last `back` symbols ago.
-    pub fn at(self, back: usize) -> Times
+    // The times of the carriers whose pilot was sent last `back` symbols ago. All four are lent: handed over by
+    // value they were copied for each point of a grid.
+    pub fn at(&self, back: usize) -> Times
         requires { back < 4 }
-        ensures { SentAgo self back result }
+        ensures { SentAgo self.now back result }
     {
         self.ago[back]
     }

@@ -182,7 +182,7 @@ fn gather(spectra: &[f32], len: usize, bins: BinBlock, block: &mut [f32])
 {
     for t in (0..bins.count).step_by(2) {
         // A last symbol that stands alone is copied twice: what follows it in the slot is not read.
-        let next = (t + 1).min(bins.count - 1);
+        let next = if t + 1 < bins.count { t + 1 } else { t };
         spread_two(
             spectra,
             bins.first + t * len,
